@@ -36,17 +36,24 @@ static bool is(rezdolin_bytes a, const char *text) {
 
 static bool is_byte(rezdolin_bytes a, uint8_t byte) { return a.at && a.len == 1 && a.at[0] == byte; }
 
+/* A number of 4 bytes, and 0 where it isn't one. */
+static uint32_t number_in(rezdolin_bytes a) {
+    return a.len == 4 ? (uint32_t)a.at[0] << 24 | (uint32_t)a.at[1] << 16 | (uint32_t)a.at[2] << 8 | a.at[3] : 0;
+}
+
 /* What the server's directory says: whether the user is accepted by what the request proves, or would be by the key. */
 static bool is_accepted(uint8_t *question, size_t len) {
     if (!is(part(question, len, REZDOLIN_QUESTION_USER), "al"))
         return false;
-    switch (part(question, len, REZDOLIN_QUESTION_METHOD).at[0]) {
+    switch (number_in(part(question, len, REZDOLIN_QUESTION_METHOD))) {
     case REZDOLIN_METHOD_PASSWORD:
         return accepts[1] && is(part(question, len, REZDOLIN_QUESTION_PASSWORD), "secret");
     case REZDOLIN_METHOD_PUBLICKEY:
         return accepts[2] && equal(part(question, len, REZDOLIN_QUESTION_KEY), s.users[0].proof);
-    default:
+    case REZDOLIN_METHOD_NONE:
         return accepts[0];
+    default:
+        return false;
     }
 }
 
@@ -76,7 +83,7 @@ static void begin_asking(unsigned seed) {
     begin(&s, seed);
     memset(answers, 0, sizeof answers);
     memset(counts, 0, sizeof counts);
-    s.client.asks = s.server.asks = true;
+    s.client.asks = s.server.asks = 1;
     s.client.trusted_host_keys_len = s.server.users_len = 0;
     accepts[0] = false;
     accepts[1] = accepts[2] = trusts = true;
@@ -109,9 +116,9 @@ static void decisions(void) {
     bool same = true;
     for (size_t i = 0; i < 2; i++)
         same = same && is_byte(asked(1, i, REZDOLIN_QUESTION_KIND), REZDOLIN_ASKS_USER)
-               && asked(1, i, REZDOLIN_QUESTION_NUMBER).len == 4 && asked(1, i, REZDOLIN_QUESTION_NUMBER).at[3] == i + 1
+               && number_in(asked(1, i, REZDOLIN_QUESTION_NUMBER)) == i + 1
                && is(asked(1, i, REZDOLIN_QUESTION_USER), "al") && is(asked(1, i, REZDOLIN_QUESTION_SERVICE), "ssh-connection")
-               && is_byte(asked(1, i, REZDOLIN_QUESTION_METHOD), REZDOLIN_METHOD_PUBLICKEY)
+               && number_in(asked(1, i, REZDOLIN_QUESTION_METHOD)) == REZDOLIN_METHOD_PUBLICKEY
                && is(asked(1, i, REZDOLIN_QUESTION_ALGORITHM), "ssh-ed25519")
                && equal(asked(1, i, REZDOLIN_QUESTION_KEY), s.users[0].proof) && is(asked(1, i, REZDOLIN_QUESTION_PASSWORD), "");
     row("what a server is asked of a key", same);
@@ -127,11 +134,11 @@ static void decisions(void) {
     accepts[2] = false;
     meet_asking();
     row("a key no, a password yes", are_authenticated(&s) && counts[1] == 2
-                                        && is_byte(asked(1, 1, REZDOLIN_QUESTION_METHOD), REZDOLIN_METHOD_PASSWORD)
+                                        && number_in(asked(1, 1, REZDOLIN_QUESTION_METHOD)) == REZDOLIN_METHOD_PASSWORD
                                         && is(asked(1, 1, REZDOLIN_QUESTION_PASSWORD), "secret")
                                         && is(asked(1, 1, REZDOLIN_QUESTION_KEY), "") && field(&s, 1, REZDOLIN_BY_PASSWORD).at[0] == 1);
     begin_asking(3);
-    s.plan[0].ask = false;
+    s.plan[0].ask = 0;
     meet_asking();
     row("a signed key, without a query", are_authenticated(&s) && counts[1] == 1 && field(&s, 1, REZDOLIN_BY_KEY).len == 51);
     begin_asking(4);
@@ -145,7 +152,7 @@ static void decisions(void) {
     begin_asking(6);
     s.plan[0].method = REZDOLIN_METHOD_NONE;
     meet_asking();
-    row("nothing proved is asked", are_authenticated(&s) && counts[1] == 2 && is_byte(asked(1, 0, REZDOLIN_QUESTION_METHOD), REZDOLIN_METHOD_NONE));
+    row("nothing proved is asked", are_authenticated(&s) && counts[1] == 2 && number_in(asked(1, 0, REZDOLIN_QUESTION_METHOD)) == REZDOLIN_METHOD_NONE);
     begin_asking(7);
     s.server.required = TEXT("publickey,password");
     meet_asking();
@@ -157,16 +164,17 @@ static void decisions(void) {
     meet_asking();
     row("lists aren't read", ended(0, REZDOLIN_FAILED, 10, 0) && counts[0] == 1);
     begin_asking(9);
-    s.server.asks = false;
+    s.server.asks = 0;
     s.server.users_len = 2;
     meet_asking();
     row("a client that asks, at a server that doesn't", are_authenticated(&s) && counts[0] == 1 && counts[1] == 0);
 }
 
 static bool unreadable(int server) {
-    uint8_t before = s.questions[server][0] = 9;
+    s.questions[server][0] = s.questions[server][3] = s.questions[server][4] = 9;
     step(&s, server, 65536);
-    return s.ends[server].status == REZDOLIN_UNREADABLE && s.ends[server].written == 0 && s.questions[server][0] == before;
+    return s.ends[server].status == REZDOLIN_UNREADABLE && s.ends[server].written == 0 && s.questions[server][0] == 0
+           && s.questions[server][3] == 0 && s.questions[server][4] == 9;
 }
 
 /* The client has come to its question. */
@@ -178,14 +186,27 @@ static void come_to_question(unsigned seed) {
     }
 }
 
+/* A question in a room of so many bytes: how the call answers, and that the room's first field is empty. */
+static bool lacks_room(int server, size_t room, size_t len) {
+    uint8_t *small = malloc(room + 1), out[4] = {8, 8, 8, 8}, none[1];
+    memset(small, 7, room + 1);
+    rezdolin_endpoint_answer a = server ? rezdolin_server(&s.server, s.to_server.at, s.to_server.len, 0, out, 4, none, 0, small, room)
+                                        : rezdolin_client(&s.client, s.to_client.at, s.to_client.len, 0, out, 4, none, 0, small, room);
+    bool holds = a.status == REZDOLIN_ROOM && a.question_len == len && a.session_len == 0 && a.config == 0 && a.end == 0
+                 && a.fault == 0 && a.detail == 0 && a.used == 0 && a.sent == 0 && a.written == 0 && out[0] == 8;
+    for (size_t i = 0; i <= room; i++)
+        holds = holds && small[i] == (i < 4 && i < room ? 0 : 7);
+    free(small);
+    return holds;
+}
+
 static void numbers(void) {
     static const uint8_t yes[2] = {1, 1}, other_byte[1] = {2};
     come_to_question(10);
     row("no answer", ended(0, REZDOLIN_ASKS, 0, 0) && s.ends[0].used < s.to_client.len && s.ends[0].sent == s.to_server.len);
     size_t len = s.ends[0].question_len;
-    uint8_t small[4] = {7, 7, 7, 7}, none[1];
-    rezdolin_endpoint_answer a = rezdolin_client(&s.client, s.to_client.at, s.to_client.len, 0, none, 0, none, 0, small, 4);
-    row("a question that has no room", a.end == REZDOLIN_ASKS && a.question_len == len && small[0] == 7 && small[3] == 7);
+    for (size_t room = 0; room < len; room += len - room > 7 ? 6 : 1)
+        row("a question that has no room", lacks_room(0, room, len));
     s.client.answers = (rezdolin_bytes){yes, 2};
     row("more answers than questions", unreadable(0));
     s.client.answers.len = 1;
@@ -203,15 +224,46 @@ static void numbers(void) {
     begin(&s, 12);
     s.client.answers = (rezdolin_bytes){other_byte, 1};
     s.server.answers = (rezdolin_bytes){yes, 2};
-    s.questions[0][0] = s.questions[1][0] = 9;
+    s.questions[0][0] = s.questions[1][0] = s.questions[0][4] = s.questions[1][4] = 9;
     meet(&s, 65536);
-    row("where it doesn't ask no answer is read", are_authenticated(&s) && s.questions[0][0] == 9 && s.questions[1][0] == 9
-                                                      && s.ends[0].question_len == 0 && s.ends[1].question_len == 0);
+    row("where it doesn't ask no answer is read", are_authenticated(&s) && s.ends[0].question_len == 0 && s.ends[1].question_len == 0);
+    row("and no question is left", s.questions[0][0] == 0 && s.questions[1][0] == 0 && s.questions[0][4] == 9 && s.questions[1][4] == 9);
+}
+
+/* A server whose room for questions is small is asked about a key, and then about a password that doesn't fit there. */
+static void stale(void) {
+    static uint8_t password[900];
+    memset(password, 'x', sizeof password);
+    begin_asking(13);
+    s.plan[1].secret = (rezdolin_bytes){password, sizeof password};
+    accepts[2] = false;
+    for (int i = 0; i < 8 && (counts[1] < 1 || s.ends[1].end != REZDOLIN_ASKS); i++) {
+        step_asking(0);
+        s.server.answers = (rezdolin_bytes){answers[1], counts[1]};
+        step(&s, 1, 65536);
+        if (counts[1] == 0 && s.ends[1].end == REZDOLIN_ASKS) {
+            s.server.answers.len = counts[1] = 1; /* the key wouldn't do */
+            step(&s, 1, 65536);
+        }
+    }
+    row("a password is asked about", ended(1, REZDOLIN_ASKS, 0, 0) && s.ends[1].question_len > 900);
+    size_t count = counts[1], len = s.ends[1].question_len;
+    static uint8_t question[512], out[65536], none[1];
+    s.server.answers.len = 0;
+    rezdolin_endpoint_answer a = rezdolin_server(&s.server, s.to_server.at, s.to_server.len, 0, out, sizeof out, none, 0, question, sizeof question);
+    row("the key's question has room", a.status == REZDOLIN_ANSWERED && a.end == REZDOLIN_ASKS
+                                           && equal(part(question, a.question_len, REZDOLIN_QUESTION_KEY), s.users[0].proof));
+    s.server.answers.len = count;
+    a = rezdolin_server(&s.server, s.to_server.at, s.to_server.len, 0, out, sizeof out, none, 0, question, sizeof question);
+    row("the password's hasn't, and the key's is gone", a.status == REZDOLIN_ROOM && a.question_len == len
+                                                            && part(question, sizeof question, REZDOLIN_QUESTION_KIND).len == 0
+                                                            && part(question, sizeof question, REZDOLIN_QUESTION_KEY).at == NULL);
 }
 
 int main(void) {
     decisions();
     numbers();
+    stale();
     printf("%u passed, %u failed\n", passed, failed);
     return failed != 0;
 }

@@ -7,6 +7,7 @@
  * Its status is 0 where the command was run, 1 where the server didn't let it, and 2 where it can't begin. */
 #define _DEFAULT_SOURCE
 #include "rezdolin.h"
+#include <stdbool.h>
 #include <stdio.h>
 #include <string.h>
 #include <sys/random.h>
@@ -14,6 +15,7 @@
 
 static uint8_t received[REZDOLIN_RECEIVED_LIMIT], out[REZDOLIN_PACKET_ROOM], record[REZDOLIN_RECORD_ROOM];
 static size_t len; /* of what was received and isn't done with */
+static size_t session_len;
 static uint8_t question[REZDOLIN_QUESTION_ROOM], answers[1], drawn[112];
 static FILE *peer, *person;
 
@@ -38,9 +40,9 @@ static bool receive(void) {
 }
 
 /* Shows a person at the terminal the key of the question, and asks whether it is the server's. */
-static bool is_trusted(void) {
+static bool is_trusted(size_t question_len) {
     size_t count, n = 0;
-    const uint8_t *key = rezdolin_field(question, sizeof question, REZDOLIN_QUESTION_KEY, &count);
+    const uint8_t *key = rezdolin_field(question, question_len, REZDOLIN_QUESTION_KEY, &count);
     for (person = fopen("/dev/tty", "r+"); person && n < count; n++)
         fprintf(person, "%02x", key[n]);
     return person && fputs("\nIs this the server's key? yes/no ", person) >= 0 && fflush(person) == 0 && getc(person) == 'y';
@@ -61,18 +63,19 @@ static bool authenticate(rezdolin_client_input *client) {
             sent += answer.written;
         } while (send_all(out, answer.written) && sent < answer.sent);
         if (answer.end == REZDOLIN_ASKS) /* once, of a client */
-            answers[client->answers.len++] = is_trusted();
+            answers[client->answers.len++] = is_trusted(answer.question_len);
     } while (++calls < REZDOLIN_CALLS_LIMIT && (answer.end == REZDOLIN_ASKS || (answer.end == REZDOLIN_OPEN && receive())));
     memmove(received, received + answer.used, len -= answer.used);
     if (answer.end != REZDOLIN_AUTHENTICATED)
         fprintf(stderr, "end %u: F%u %u\n", answer.end, answer.fault, answer.detail);
-    return answer.end == REZDOLIN_AUTHENTICATED && answer.session_len <= sizeof record;
+    session_len = answer.session_len;
+    return answer.end == REZDOLIN_AUTHENTICATED;
 }
 
 /* Sends a payload in a packet of its own. */
 static bool send_payload(const uint8_t *payload, size_t count) {
     size_t state_len;
-    uint8_t *state = rezdolin_field(record, sizeof record, REZDOLIN_OUTGOING, &state_len);
+    uint8_t *state = rezdolin_field(record, session_len, REZDOLIN_OUTGOING, &state_len);
     rezdolin_bytes_answer answer = rezdolin_seal(state, state_len, drawn + 80, 32, payload, count, out, sizeof out);
     return answer.status == REZDOLIN_ANSWERED && send_all(out, answer.len);
 }
@@ -80,7 +83,7 @@ static bool send_payload(const uint8_t *payload, size_t count) {
 /* Receives the next payload into `out`. */
 static bool receive_payload(size_t *count) {
     size_t state_len;
-    uint8_t *state = rezdolin_field(record, sizeof record, REZDOLIN_INCOMING, &state_len);
+    uint8_t *state = rezdolin_field(record, session_len, REZDOLIN_INCOMING, &state_len);
     rezdolin_bytes_answer answer;
     do
         answer = rezdolin_open(state, state_len, received, len, out, sizeof out);
@@ -140,7 +143,7 @@ int main(int argc, char **argv) {
         attempt.secret.len--;
     rezdolin_client_input client = {
         .side = {REZDOLIN_TEXT("rezdolin"), REZDOLIN_TEXT(""), REZDOLIN_TEXT(REZDOLIN_KEX), ciphers, ciphers, macs, macs,
-                 {drawn, 16}, {drawn + 16, 32}, {drawn + 48, 32}, true},
+                 {drawn, 16}, {drawn + 16, 32}, {drawn + 48, 32}, REZDOLIN_STRICT_YES},
         .server_host_key_algorithms = REZDOLIN_TEXT(REZDOLIN_HOST_KEY),
         .plan = &attempt, .plan_len = 1, .trusted_host_keys = &trusted, .trusted_host_keys_len = 1,
         .asks = strcmp(argv[3], "-") == 0, .answers = {answers, 0}};

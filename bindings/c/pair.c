@@ -32,7 +32,7 @@ static void methods(void) {
     row("the key that came in", equal(field(&s, 1, REZDOLIN_BY_KEY), s.users[0].proof));
     row("no password came in", is(field(&s, 1, REZDOLIN_BY_PASSWORD), "") == false && field(&s, 1, REZDOLIN_BY_PASSWORD).at[0] == 0);
     begin(&s, 2);
-    s.plan[0].ask = false;
+    s.plan[0].ask = 0;
     meet(&s, 65536);
     row("a key that isn't asked about", are_authenticated(&s));
     begin(&s, 3);
@@ -42,8 +42,8 @@ static void methods(void) {
     row("a password", are_authenticated(&s) && field(&s, 1, REZDOLIN_BY_PASSWORD).at[0] == 1);
     row("a client doesn't say how", field(&s, 0, REZDOLIN_BY_PASSWORD).len == 0 && field(&s, 0, REZDOLIN_BY_KEY).len == 0);
     begin(&s, 4);
-    s.plan[0].method = REZDOLIN_METHOD_NONE;
-    s.users[0].method = REZDOLIN_METHOD_NONE;
+    s.plan[0].method = s.users[0].method = REZDOLIN_METHOD_NONE;
+    s.users[0].proof = TEXT("");
     meet(&s, 65536);
     row("no proof", are_authenticated(&s) && field(&s, 1, REZDOLIN_BY_PASSWORD).at[0] == 0);
     begin(&s, 5);
@@ -134,6 +134,33 @@ static void configs(void) {
     begin(&s, 14);
     s.server.required = TEXT("password,password");
     row("C12", refuses(1, REZDOLIN_CONFIG, 12));
+    rezdolin_bytes *lists[6] = {&s.client.side.kex_algorithms, &s.client.side.encryption_client_to_server,
+                                &s.client.side.encryption_server_to_client, &s.client.server_host_key_algorithms,
+                                &s.server.side.kex_algorithms, &s.server.side.encryption_server_to_client};
+    rezdolin_bytes names[6] = {TEXT("curve25519-sha256,mlkem768x25519-sha256"), TEXT("aes128-ctr"), TEXT("chacha20-poly1305@openssh.com,none"),
+                               TEXT("ssh-ed25519,ecdsa-sha2-nistp256"), TEXT("ecdh-sha2-nistp256"), TEXT("aes128-gcm@openssh.com")};
+    for (int i = 0; i < 6; i++) {
+        begin(&s, 14);
+        *lists[i] = names[i];
+        row("C13", refuses(i > 3, REZDOLIN_CONFIG, 13));
+    }
+    begin(&s, 14);
+    s.host.algorithm = TEXT("ssh-ed448");
+    row("C13 of a host key", refuses(1, REZDOLIN_CONFIG, 13));
+    for (size_t len = 0; len <= 64; len += len % 32 == 31 || len % 32 == 0 ? 1 : 30)
+        if (len != 32) {
+            begin(&s, 14);
+            s.plan[0].secret = s.host.private_key = (rezdolin_bytes){big, len};
+            row("C14 of an attempt", refuses(0, REZDOLIN_CONFIG, 14));
+            row("C14 of a host key", refuses(1, REZDOLIN_CONFIG, 14));
+        }
+    begin(&s, 14);
+    s.plan[0].algorithm = TEXT("rsa-sha2-512");
+    row("C14 of an algorithm that only verifies", refuses(0, REZDOLIN_CONFIG, 14));
+    begin(&s, 14);
+    s.client.side.mac_client_to_server = s.server.side.mac_client_to_server = TEXT("umac-64@openssh.com");
+    meet(&s, 65536);
+    row("a MAC isn't judged", are_authenticated(&s));
     begin(&s, 14);
     s.plan[1].user = TEXT("\xff");
     row("a user that is no UTF-8", refuses(0, REZDOLIN_UNREADABLE, 0));
@@ -143,6 +170,59 @@ static void configs(void) {
     begin(&s, 14);
     s.server.services = TEXT("\xc3");
     row("a service that is no UTF-8", refuses(1, REZDOLIN_UNREADABLE, 0));
+}
+
+/* The list of users is this one, a part that a program left out or put in by mistake: it accepts nobody. */
+static bool is_no_list(const rezdolin_user *users, size_t count) {
+    begin(&s, 18);
+    s.plan[0].method = REZDOLIN_METHOD_NONE;
+    s.server.users = users;
+    s.server.users_len = count;
+    bool holds = refuses(1, REZDOLIN_UNREADABLE, 0);
+    meet(&s, 65536);
+    return holds && s.ends[0].end != REZDOLIN_AUTHENTICATED && s.ends[1].end != REZDOLIN_AUTHENTICATED;
+}
+
+static void mistakes(void) {
+    rezdolin_bytes al = TEXT("al"), secret = TEXT("secret"), none = TEXT("");
+    rezdolin_user forgotten[1] = {{.user = al, .proof = secret}}, last[2] = {{al, secret, REZDOLIN_METHOD_PASSWORD}, {none, none, 0}};
+    row("a method that was forgotten", is_no_list(forgotten, 1));
+    row("an entry past the last", is_no_list(last, 2));
+    for (uint32_t method = 3; method; method <<= 3)
+        row("a method that has no such number", (last[1] = (rezdolin_user){al, none, method}, is_no_list(last, 2)));
+    last[1] = (rezdolin_user){al, secret, REZDOLIN_METHOD_NONE};
+    row("none with a proof", is_no_list(last, 2));
+    last[1] = (rezdolin_user){al, none, REZDOLIN_METHOD_PASSWORD};
+    row("an empty password", is_no_list(last, 2));
+    last[1] = (rezdolin_user){al, none, REZDOLIN_METHOD_PUBLICKEY};
+    row("an empty key", is_no_list(last, 2));
+    last[1] = (rezdolin_user){none, secret, REZDOLIN_METHOD_PASSWORD};
+    row("no user", is_no_list(last, 2));
+    last[1] = (rezdolin_user){none, none, REZDOLIN_METHOD_NONE};
+    row("no user and no proof", is_no_list(last, 2));
+    begin(&s, 18);
+    s.server.users_len = 0;
+    meet(&s, 65536);
+    row("no entry", ended(&s, 0, REZDOLIN_FAILED, 14, 0));
+    begin(&s, 19);
+    s.plan[1].method = 0;
+    row("an attempt's method that was forgotten", refuses(0, REZDOLIN_UNREADABLE, 0));
+    uint32_t *numbers[4] = {&s.client.guess, &s.client.asks, &s.plan[0].ask, &s.server.asks}, others[3] = {2, 255, 0xffffffff};
+    for (int i = 0; i < 12; i++) {
+        begin(&s, 19);
+        *numbers[i % 4] = others[i / 4];
+        row("a yes or no that is neither", refuses(i % 4 == 3, REZDOLIN_UNREADABLE, 0));
+    }
+    uint32_t *strict[2] = {&s.client.side.strict, &s.server.side.strict}, wrong[3] = {0, 3, 0xffffffff};
+    for (int i = 0; i < 6; i++) {
+        begin(&s, 19);
+        *strict[i % 2] = wrong[i / 2];
+        row("a side that doesn't say whether it is strict", refuses(i % 2, REZDOLIN_UNREADABLE, 0));
+    }
+    begin(&s, 19);
+    s.client.side.strict = REZDOLIN_STRICT_NO;
+    meet(&s, 65536);
+    row("a side that isn't strict", are_authenticated(&s) && field(&s, 0, REZDOLIN_STRICT).at[0] == 0);
 }
 
 static void records(void) {
@@ -165,9 +245,22 @@ static void records(void) {
                           && is(field(&s, 0, REZDOLIN_AGREED_COMPRESSION_SERVER_TO_CLIENT), "none"));
     row("strict", field(&s, 0, REZDOLIN_STRICT).len == 1 && field(&s, 0, REZDOLIN_STRICT).at[0] == 1);
     row("there are 20 fields", field(&s, 0, 20).at == NULL);
-    uint8_t small[10] = {7, 7, 7, 7, 7, 7, 7, 7, 7, 7}, byte[1];
-    rezdolin_endpoint_answer answer = rezdolin_client(&s.client, s.to_client.at, s.to_client.len, 0, byte, 0, small, 10, s.questions[0], 0);
-    row("a record that has no room", answer.session_len == s.ends[0].session_len && small[0] == 7 && answer.written == 0);
+    for (size_t room = 0; room < 10; room++) {
+        uint8_t small[10] = {7, 7, 7, 7, 7, 7, 7, 7, 7, 7}, out[4] = {8, 8, 8, 8};
+        rezdolin_endpoint_answer a = rezdolin_client(&s.client, s.to_client.at, s.to_client.len, 0, out, 4, small, room, s.questions[0], 0);
+        bool holds = a.status == REZDOLIN_ROOM && a.session_len == s.ends[0].session_len && a.question_len == 0 && a.end == 0
+                     && a.used == 0 && a.sent == 0 && a.written == 0 && out[0] == 8;
+        for (size_t i = 0; i < 10; i++)
+            holds = holds && small[i] == (i < 4 && i < room ? 0 : 7);
+        row("a record that has no room", holds);
+    }
+    size_t len = s.ends[0].session_len;
+    memset(s.records[0], 7, len);
+    step(&s, 0, 65536);
+    row("a record that has room again", s.ends[0].session_len == len && is(field(&s, 0, REZDOLIN_USER), "al"));
+    s.records[0][0] = s.records[0][3] = 9;
+    s.ends[0] = rezdolin_client(&s.client, s.to_client.at, 100, 0, s.to_server.at, 65536, s.records[0], 65536, s.questions[0], 65536);
+    row("a record that is left of another call", s.ends[0].end == REZDOLIN_OPEN && s.records[0][0] == 0 && s.records[0][3] == 0);
 }
 
 static void cuts(void) {
@@ -190,7 +283,12 @@ static void cuts(void) {
     step(&s, 0, 65536);
     row("a byte that comes after", s.ends[0].end == REZDOLIN_AUTHENTICATED && s.ends[0].used == s.to_client.len - 1);
     rezdolin_endpoint_answer a = rezdolin_client(&s.client, s.to_client.at, s.to_client.len, 1000000, other.to_server.at, 10, other.records[0], 0, other.questions[0], 0);
-    row("more was skipped than is sent", a.status == 0 && a.written == 0);
+    row("more was skipped than is sent", a.status == REZDOLIN_UNREADABLE && a.written == 0);
+    size_t sent = s.ends[0].sent;
+    a = rezdolin_client(&s.client, s.to_client.at, s.to_client.len, sent, other.to_server.at, 10, other.records[0], 65536, other.questions[0], 0);
+    row("all was skipped that is sent", a.status == REZDOLIN_ANSWERED && a.written == 0 && a.sent == sent);
+    a = rezdolin_client(&s.client, s.to_client.at, s.to_client.len, sent + 1, other.to_server.at, 10, other.records[0], 65536, other.questions[0], 0);
+    row("one byte more", a.status == REZDOLIN_UNREADABLE && a.sent == 0);
 }
 
 static void packets(const char *cipher) {
@@ -199,6 +297,7 @@ static void packets(const char *cipher) {
     begin(&s, 17);
     rezdolin_bytes name = {(const uint8_t *)cipher, strlen(cipher)};
     s.client.side.encryption_client_to_server = s.client.side.encryption_server_to_client = name;
+    s.server.side.encryption_client_to_server = s.server.side.encryption_server_to_client = name;
     meet(&s, 65536);
     for (size_t i = 0; i < sizeof payload; i++)
         payload[i] = (uint8_t)(i * 7);
@@ -240,6 +339,7 @@ int main(void) {
     methods();
     refusals();
     configs();
+    mistakes();
     records();
     cuts();
     packets("chacha20-poly1305@openssh.com");

@@ -2,6 +2,7 @@
 #ifndef SESSION_H
 #define SESSION_H
 #include "rezdolin.h"
+#include <stdbool.h>
 #include <stdlib.h>
 #include <string.h>
 
@@ -31,7 +32,7 @@ typedef struct session {
 static inline rezdolin_side side_of(const uint8_t *drawn) {
     rezdolin_bytes ciphers = TEXT(REZDOLIN_CIPHERS), macs = TEXT(REZDOLIN_MACS);
     return (rezdolin_side){TEXT("rezdolin"), TEXT(""), TEXT(REZDOLIN_KEX), ciphers, ciphers, macs, macs,
-                           {drawn, 16}, {drawn + 16, 32}, {drawn + 48, 32}, true};
+                           {drawn, 16}, {drawn + 16, 32}, {drawn + 48, 32}, REZDOLIN_STRICT_YES};
 }
 
 /* The public key of a secret, as often as memory is wanting. */
@@ -57,9 +58,9 @@ static inline void begin(session *s, unsigned seed) {
     size_t user_len = public_key(s->user_secret, s->user_key, sizeof s->user_key);
     s->trusted = (rezdolin_bytes){s->host_key, host_len};
     s->plan[0] = (rezdolin_attempt){TEXT("al"), TEXT("ssh-connection"), TEXT(REZDOLIN_HOST_KEY), {s->user_secret, 32},
-                                    REZDOLIN_METHOD_PUBLICKEY, true};
+                                    REZDOLIN_METHOD_PUBLICKEY, 1};
     s->plan[1] = (rezdolin_attempt){TEXT("al"), TEXT("ssh-connection"), TEXT(""), TEXT("secret"),
-                                    REZDOLIN_METHOD_PASSWORD, false};
+                                    REZDOLIN_METHOD_PASSWORD, 0};
     memset(s->yes, 1, sizeof s->yes);
     s->client = (rezdolin_client_input){.side = side_of(s->drawn[0]),
                                         .server_host_key_algorithms = TEXT(REZDOLIN_HOST_KEY),

@@ -19,7 +19,8 @@ import struct
 
 RECEIVED_LIMIT = 262144
 KEX = 'curve25519-sha256,curve25519-sha256@libssh.org'
-CIPHERS = 'chacha20-poly1305@openssh.com,aes256-gcm@openssh.com'
+# (aes256-gcm@openssh.com too: where both sides are strict, and slow)
+CIPHERS = 'chacha20-poly1305@openssh.com'
 MACS = 'hmac-sha2-256-etm@openssh.com,hmac-sha2-512-etm@openssh.com,hmac-sha2-256,hmac-sha2-512,hmac-sha1'
 HOST_KEY, SERVICE = b'ssh-ed25519', b'ssh-connection'
 ANSWERED, MEMORY, CONFIG, UNREADABLE, ROOM, PAYLOAD, USED_UP, PACKET, MORE = range(9)
@@ -38,20 +39,20 @@ def _struct(name, *fields):
 _Side = _struct('_Side', *[(name, _Bytes) for name in (
     'softwareversion', 'comments', 'kex_algorithms', 'encryption_client_to_server', 'encryption_server_to_client',
     'mac_client_to_server', 'mac_server_to_client', 'cookie', 'exchange_random', 'padding_seed')],
-    ('strict', ctypes.c_bool))
+    ('strict', ctypes.c_uint32))
 _Attempt = _struct('_Attempt', *[(name, _Bytes) for name in ('user', 'service', 'algorithm', 'secret')],
-                   ('method', ctypes.c_uint32), ('ask', ctypes.c_bool))
+                   ('method', ctypes.c_uint32), ('ask', ctypes.c_uint32))
 _Client = _struct('_Client', ('side', _Side), ('server_host_key_algorithms', _Bytes),
                   ('plan', ctypes.POINTER(_Attempt)), ('plan_len', ctypes.c_size_t),
                   ('trusted_host_keys', ctypes.POINTER(_Bytes)), ('trusted_host_keys_len', ctypes.c_size_t),
-                  ('guess', ctypes.c_bool), ('asks', ctypes.c_bool), ('answers', _Bytes))
+                  ('guess', ctypes.c_uint32), ('asks', ctypes.c_uint32), ('answers', _Bytes))
 _HostKey = _struct('_HostKey', ('algorithm', _Bytes), ('private_key', _Bytes))
 _User = _struct('_User', ('user', _Bytes), ('proof', _Bytes), ('method', ctypes.c_uint32))
 _Server = _struct('_Server', ('side', _Side), ('host_keys', ctypes.POINTER(_HostKey)), ('host_keys_len', ctypes.c_size_t),
                   *[(name, _Bytes) for name in ('services', 'methods', 'required', 'banner')],
                   ('notice_lines', ctypes.POINTER(_Bytes)), ('notice_lines_len', ctypes.c_size_t),
                   ('users', ctypes.POINTER(_User)), ('users_len', ctypes.c_size_t), ('tries', ctypes.c_uint32),
-                  ('asks', ctypes.c_bool), ('answers', _Bytes))
+                  ('asks', ctypes.c_uint32), ('answers', _Bytes))
 _EndpointAnswer = _struct('_EndpointAnswer', *[(name, ctypes.c_uint32) for name in ('status', 'config', 'end', 'fault', 'detail')],
                           *[(name, ctypes.c_size_t) for name in ('used', 'sent', 'written', 'session_len', 'question_len')])
 _BytesAnswer = _struct('_BytesAnswer', ('status', ctypes.c_uint32), ('fault', ctypes.c_uint32),
@@ -83,7 +84,8 @@ class Refused(Exception):
     """A call wasn't answered: `status`, and of CONFIG the number of the refusal, of PACKET that of the fault."""
 
     def __init__(self, status, number=0):
-        what = {MEMORY: 'memory ran out', CONFIG: f'C{number}', UNREADABLE: 'what was put in can\'t be read', ROOM: 'no room',
+        config = {13: 'C13: a list names an algorithm that the library has not', 14: 'C14: a private key has 32 bytes'}
+        what = {MEMORY: 'memory ran out', CONFIG: config.get(number, f'C{number}'), UNREADABLE: 'what was put in can\'t be read', ROOM: 'no room',
                 PAYLOAD: 'a payload has 1 to 32768 bytes', USED_UP: 'keys used up', PACKET: f'P{number}'}
         super().__init__(what[status])
         self.status, self.number = status, number
@@ -107,7 +109,7 @@ class Key:
 
 class Nothing:
     """The method none."""
-    method, bytes = 0, b''
+    method, bytes = 0x6e6f6e65, b''
 
 
 def _lent(data):
@@ -138,8 +140,8 @@ class Question:
     def __init__(self, record):
         kind, number, self.user, self.service, method, self.algorithm, self.key, password = _fields(record)
         self.is_user, self.number = kind == b'\x01', int.from_bytes(number, 'big')
-        proofs = {b'': lambda: None, b'\x00': Nothing, b'\x01': lambda: Password(password), b'\x02': lambda: Key(self.key)}
-        self.proof = proofs[method]()
+        proofs = {Nothing.method: Nothing, Password.method: lambda: Password(password), Key.method: lambda: Key(self.key)}
+        self.proof = proofs[int.from_bytes(method, 'big')]() if self.is_user else None
 
 
 class Link:
@@ -181,7 +183,7 @@ class _Endpoint:
         texts = [_text(it) for it in (softwareversion, '', kex, ciphers, ciphers, macs, macs)]
         drawn = [os.urandom(size) for size in (16, 32, 32)]
         # (each structure keeps the bytes that were put in alive)
-        self._side = _Side(*[_lent(it) for it in texts + drawn], strict)
+        self._side = _Side(*[_lent(it) for it in texts + drawn], 1 if strict else 2)
 
     @property
     def is_open(self):
@@ -230,10 +232,14 @@ class _Endpoint:
         return b''.join(said)
 
     def link(self):
-        """The session of an authenticated endpoint. Take one alone: it counts packets."""
+        """The session of an authenticated endpoint. It is taken once, since it counts packets: of two links each would seal by
+        the same keys and numbers."""
         if not self.is_authenticated:
             raise ValueError('it isn\'t authenticated')
-        return Link(self._record)
+        if not self._record:
+            raise ValueError('its link was taken')
+        record, self._record = self._record, b''
+        return Link(record)
 
 
 class Client(_Endpoint):

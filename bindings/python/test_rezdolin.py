@@ -57,6 +57,10 @@ class Memory(unittest.TestCase):
             self.assertEqual(theirs.open(packet + b'more'), (b'\0' * n, len(packet)))
         with self.assertRaises(Refused):
             theirs.open(b'\7' * 100)
+        for taken in (client, server):
+            self.assertTrue(taken.is_authenticated)
+            with self.assertRaises(ValueError):
+                taken.link()
 
     def test_asks(self):
         def decides(question):
@@ -89,6 +93,24 @@ class Memory(unittest.TestCase):
         with self.assertRaises(Refused) as refused:
             Client('al', [], [], kex='').feed(b'')
         self.assertEqual((refused.exception.status, refused.exception.number), (rezdolin.CONFIG, 1))
+        for wrong in (b'', HOST[1:], HOST + b'\n', HOST + HOST):
+            for endpoint in (Client('al', [Key(wrong)], []), Server(wrong, [])):
+                with self.assertRaises(Refused) as refused:
+                    endpoint.feed(b'')
+                self.assertEqual((refused.exception.status, refused.exception.number), (rezdolin.CONFIG, 14))
+        with self.assertRaises(Refused) as refused:
+            Client('al', [], [], ciphers='aes128-ctr').feed(b'')
+        self.assertEqual((refused.exception.status, refused.exception.number), (rezdolin.CONFIG, 13))
+        for user, proof in (('al', Password(b'')), ('al', Key(b'')), ('', Password(b'secret')), ('', Nothing())):
+            with self.assertRaises(Refused) as refused:
+                Server(HOST, [('al', Password(b'secret')), (user, proof)]).feed(b'')
+            self.assertEqual(refused.exception.status, rezdolin.UNREADABLE)
+
+    def test_nothing(self):
+        client, server = Client('al', [Nothing()], [public_key(HOST)]), Server(HOST, [('al', Nothing())], strict=False)
+        meet(client, server)
+        self.assertTrue(client.is_authenticated and server.is_authenticated)
+        self.assertFalse(client.link().is_strict)
 
 
 @unittest.skipUnless(asyncssh, 'asyncssh is not there')

@@ -95,35 +95,40 @@ def server(file):
             request_, says_ = c.send(payload), s.send(SUCCESS if yes else FAILURE)
             end = "end open" if not yes else "end authenticated %s ssh-connection" % ("bo" if "another" in name else "al")
             a.row("is asked by %s, and the answer is %s" % (name, "yes" if yes else "no"), feed(request_), asks, "says -",
-                  "verified %d" % verified, "end open", answer(yes), "question nothing", says(says_), "verified 0", end,
+                  "verified 0", "end open", answer(yes), "question nothing", says(says_), "verified %d" % (verified if yes else 0), end,
                   [direction("in", c.seq, a.t.cs), direction("out", s.seq, a.t.sc)] if yes else [])
     for yes in (True, False):
         c, s = half(a.peer), half(a.own)
         a.row("is asked about a key, and the answer is %s" % ("yes" if yes else "no"), feed(c.send(by_query())), user(1, of_key()), "says -",
               "verified 0", answer(yes), "question nothing", says(s.send(pk_ok() if yes else FAILURE)), "verified 0", "end open")
+    wrong = request("al", "ssh-connection", "publickey", key_fields("h", signed(bytes(32), "h")))
+    for yes in (True, False):
+        for tries, says_, end in ((6, FAILURE, "open"), (1, disconnect(14), "failed F13")):
+            c, s = half(a.peer), half(a.own)
+            a.row("is asked by a wrong signature, of %d tries, and the answer is %s" % (tries, "yes" if yes else "no"), feed(c.send(wrong)),
+                  user(1, of_key()), "says -", "verified 0", answer(yes), "question nothing", says(s.send(says_)), "verified %d" % yes, "end " + end,
+                  settings=["server tries %d" % tries])
     unasked(a, h)
     both(a, h)
 
 
 def unasked(a, h):
-    """Requests that prove nothing, and what else is answered at once. A wrong signature is looked at again as its request is answered,
-    so how often isn't judged."""
-    wrong = request("al", "ssh-connection", "publickey", key_fields("h", signed(bytes(32), "h")))
+    """Requests that claim nothing, and what else is answered at once."""
     name = request("al", "ssh-connection", "publickey", key_fields(NO_NAMES[2], signed(h, NO_NAMES[2])))
-    cases = [("a wrong signature", wrong, FAILURE, None, "open", []), ("no name", name, FAILURE, 0, "open", []),
-             ("a change of the password", request("al", "ssh-connection", "password", b"\x01" + string(b"\x00") + string(b"\x01")), FAILURE, 0,
+    cases = [("no name", name, FAILURE, "open", []),
+             ("a change of the password", request("al", "ssh-connection", "password", b"\x01" + string(b"\x00") + string(b"\x01")), FAILURE,
               "open", []),
-             ("an unknown method", request("al", "ssh-connection", "hostbased"), FAILURE, 0, "open", []),
-             ("a key that is too long", long_query(8193), FAILURE, 0, "open", []),
-             ("a method that isn't listed", by_password(b"\x00"), failure(("publickey",)), 0, "open", ["server methods publickey"]),
-             ("a key where that isn't listed", by_key(h), failure(("password",)), 0, "open", ["server methods password"]),
-             ("another service", by_none(service_name="odd"), disconnect(7), 0, "failed F12", []),
-             ("a query at the last try", by_query(), disconnect(14), 0, "failed F13", ["server tries 1"]),
-             ("a message without use", b"\x50", disconnect(2), 0, "failed F6 80", [])]
-    for what, payload, says_, verified, end, settings in cases:
+             ("an unknown method", request("al", "ssh-connection", "hostbased"), FAILURE, "open", []),
+             ("a key that is too long", long_query(8193), FAILURE, "open", []),
+             ("a method that isn't listed", by_password(b"\x00"), failure(("publickey",)), "open", ["server methods publickey"]),
+             ("a key where that isn't listed", by_key(h), failure(("password",)), "open", ["server methods password"]),
+             ("another service", by_none(service_name="odd"), disconnect(7), "failed F12", []),
+             ("a query at the last try", by_query(), disconnect(14), "failed F13", ["server tries 1"]),
+             ("a message without use", b"\x50", disconnect(2), "failed F6 80", [])]
+    for what, payload, says_, end, settings in cases:
         c, s = half(a.peer), half(a.own)
         a.row("asks nothing at " + what, feed(c.send(payload)), "question nothing", says(s.send(says_)),
-              [] if verified is None else "verified %d" % verified, "end " + end, settings=settings)
+              "verified 0", "end " + end, settings=settings)
 
 
 def both(a, h):
@@ -135,7 +140,7 @@ def both(a, h):
     c, s = half(a.peer), half(a.own)
     first, second = c.send(by_password(b"\x00")), c.send(by_key(h))
     a.row("is asked by both methods", feed(first), user(1, of_password(b"\x00")), answer(True), says(s.send(failure(partial=1))),
-          "verified 0", feed(second), user(2, of_key()), "says -", "verified 1", answer(True), says(s.send(SUCCESS)), "verified 0", "end " + LET_IN,
+          "verified 0", feed(second), user(2, of_key()), "says -", "verified 0", answer(True), says(s.send(SUCCESS)), "verified 1", "end " + LET_IN,
           settings=["server required password,publickey"])
     c, s = half(a.peer), half(a.own)
     first, second = c.send(by_none()), c.send(by_password(b"\x00"))
@@ -144,20 +149,20 @@ def both(a, h):
 
 
 def counted(file):
-    """A signature is verified once, however often the question is looked at and however the pieces are cut."""
+    """A signature is verified once, after a yes, however often the question is looked at and however the pieces are cut."""
     a = Asking(file, SERVER)
     c, s = half(a.peer), half(a.own)
     request_ = c.send(by_key(a.t.hash))
     asks = [user(1, of_key()), "says -"]
-    a.row("verifies a signature once", feed(request_[:20]), "verified 0", "held 20", "question nothing", feed(request_[20:]), asks, "verified 1", asks,
-          part(0, request_), asks, "verified 0", answer(True), says(s.send(SUCCESS)), "verified 0", "end " + LET_IN)
+    a.row("verifies a signature once", feed(request_[:20]), "verified 0", "held 20", "question nothing", feed(request_[20:]), asks, "verified 0", asks,
+          part(0, request_), asks, "verified 0", answer(True), says(s.send(SUCCESS)), "verified 1", "end " + LET_IN)
     c, s = half(a.peer), half(a.own)
     steps = []
     for number in range(1, 6):
         steps += [feed(c.send(by_query())), user(2 * number - 1, of_key()), "verified 0", answer(True), says(s.send(pk_ok())), "verified 0",
-                  feed(c.send(by_key(a.t.hash))), user(2 * number, of_key()), "verified 1", answer(number == 5),
-                  says(s.send(SUCCESS if number == 5 else FAILURE)), "verified 0"]
-    a.row("verifies no query, and each request once", steps, "end " + LET_IN, settings=["server tries 20"])
+                  feed(c.send(by_key(a.t.hash))), user(2 * number, of_key()), "verified 0", answer(number == 5),
+                  says(s.send(SUCCESS if number == 5 else FAILURE)), "verified %d" % (number == 5)]
+    a.row("verifies no query, and a request after a yes", steps, "end " + LET_IN, settings=["server tries 20"])
 
 
 def out_of_order(file):

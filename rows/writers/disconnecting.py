@@ -1,5 +1,5 @@
 """Endpoints that are told to disconnect: what they say, by the keys and the number at hand, and that they have ended. A description of
-more than 1024 bytes isn't sent."""
+more than 1024 bytes isn't sent. Their phase, strictness and algorithms stay as they were, and so they do where the input ends."""
 from lab import *
 from deployed_sessions import DeployedCourse, packet_of
 from requests import half
@@ -18,10 +18,28 @@ def told(reason, description=b""):
     return "disconnect %d %s" % (reason, "%d*%02x" % (len(description), description[0]) if often else hexa(description))
 
 
-def ended(reason, more):
+def ended(reason, more, stands_):
     """It stands so for good, whatever comes: bytes, the end of its input, another word of its owner."""
     end = "end disconnected %d" % reason
-    return ["held 0", end, part(0, more), "cut", told(reason + 1, BYE), end, "says -", "agreed nothing", "session none"]
+    return ["held 0", end, stands_, part(0, more), "cut", told(reason + 1, BYE), end, stands_, "says -", "agreed nothing", "session none"]
+
+
+def cut_off(more, stands_):
+    """The same of one whose input has ended."""
+    end = "end failed F16"
+    return ["cut", "held 0", end, stands_, part(0, more), "cut", told(11, BYE), end, stands_, "says -", "agreed nothing", "session none"]
+
+
+# the phase at each place, by the message that it waits for
+PHASES = {"behind KEXINIT": "exchange", "behind the share": "newkeys", "behind the reply": "newkeys", "behind NEWKEYS": "service",
+          "in authentication": "auth", "within an answer": "auth", "behind a refused request": "auth"}
+
+
+def stands(t, place):
+    """How an endpoint stands there: both sides are strict where both announce it, and there are algorithms once the peer's KEXINIT has come."""
+    if place not in PHASES:
+        return "stands kexinit none"
+    return "stands %s %s %s %s %s none none" % (PHASES[place], "yes" if t.strict else "no", t.method, t.host_key[0], " ".join(t.chosen))
 
 
 def client_places(t):
@@ -80,8 +98,11 @@ def rows(file):
         t = Talk(**how)
         for role, places, first in ((CLIENT, client_places, t.c_first), (SERVER, server_places, t.s_first)):
             for place, received, sent, own, questions in places(t):
-                file.row("a %s %s, %s" % (role, place, name), t.lines(), AL, begun(file, role, first, received, sent, questions), "end open",
-                         told(11, BYE), says(own.send(disconnect(11, BYE))), ended(11, LINE))
+                begun_ = begun(file, role, first, received, sent, questions)
+                standing = stands(t, place)
+                file.row("a %s %s, %s" % (role, place, name), t.lines(), AL, begun_, "end open", standing,
+                         told(11, BYE), says(own.send(disconnect(11, BYE))), ended(11, LINE, standing))
+                file.row("the input of a %s ends %s, %s" % (role, place, name), t.lines(), AL, begun_, "end open", standing, cut_off(LINE, standing))
     reasons(file)
     descriptions(file)
     over(file)

@@ -13,6 +13,8 @@ SHA1, SHA224, SHA384 = "2b0e03021a", "608648016503040204", "608648016503040202"
 # the distance of a prime from what is drawn for so many bits and this number
 PRIMES = {(512, 0): 108, (512, 1): 168, (1024, 0): 1452, (1024, 1): 18, (1025, 0): 550, (1536, 0): 1230, (1536, 1): 60, (2048, 0): 1882, (2048, 1): 2600,
           (4096, 0): 3230, (4096, 1): 732, (4100, 0): 1192, (4100, 1): 310}
+# exponents are below it
+EXPONENT_LIMIT = 2 ** 24
 
 
 def prime(bits, n):
@@ -75,7 +77,7 @@ def line(name, blob, data, s, good, inner=None):
 
 
 def keys():
-    """Keys of 2048 to 8192 bits, and of other exponents than the usual one."""
+    """Keys of 2048 to 8192 bits, and of other exponents than the usual one, of which the long one is refused."""
     return [
         ("2048 bits", Key(prime(1024, 0), prime(1024, 1), 65537)),
         ("3072 bits", Key(prime(1536, 0), prime(1536, 1), 65537)),
@@ -97,7 +99,7 @@ def valid(calls):
         for name in NAMES:
             data = calls.bytes(calls.draw.randrange(60, 300))
             s = key.signed(name, data)
-            calls.row("RSA of %s, %s" % (what, name), line(name, key.blob(), data, s, True))
+            calls.row("RSA of %s, %s" % (what, name), line(name, key.blob(), data, s, key.e < EXPONENT_LIMIT))
             calls.row("RSA of %s, %s, off by a bit" % (what, name), line(name, key.blob(), data, calls.flipped(s, 1), False),
                       line(name, key.blob(), calls.flipped(data), s, False))
     key = keys()[0][1]
@@ -205,6 +207,14 @@ def limits(calls):
     calls.row("RSA, a key of 2047 bits", line(name, blob_of(e, mpint_of(2 ** 2047 - 1)), data, bytes(key.size), False))
 
 
+def exponents(calls):
+    """The largest exponent, and larger ones, which a peer may choose to make work: each with its signature."""
+    p, q, data = prime(1024, 0), prime(1024, 1), calls.bytes(30)
+    for e in (EXPONENT_LIMIT - 1, EXPONENT_LIMIT + 1, 2 ** 31 + 9):
+        for name in NAMES:
+            calls.row("RSA, a key with e %d, %s" % (e, name), line(name, Key(p, q, e).blob(), data, Key(p, q, e).signed(name, data), e < EXPONENT_LIMIT))
+
+
 def own_keys(calls):
     """What the suite signs by these names is ssh-ed25519's, which none of them verifies."""
     secret, data = calls.bytes(32), calls.bytes(20)
@@ -223,3 +233,4 @@ def rows(file):
     names(calls)
     limits(calls)
     own_keys(calls)
+    exponents(calls)

@@ -59,10 +59,11 @@ def waiting(file, t):
     file.row("one that waits uses bytes", start, by_key_, asks, feed(b"\x00"), "end open")
     file.row("one that waits goes on behind the question", start, feed(half(t.c).send(by_key(t.hash)), b"\x00"), asks, "end open")
     for count in (0, 2):
-        file.row("a signature is verified %d times" % count, start, by_key_, asks, "verified %d" % count, "end open")
-    file.row("a signature is verified again at its answer", start, by_key_, asks, "verified 1", "answer yes", "verified 1", sent, let_in)
+        file.row("a signature is verified %d times" % count, start, by_key_, asks, "answer yes", sent, "verified %d" % count, let_in)
+    file.row("a signature is verified before the answer", start, by_key_, asks, "verified 1", "answer yes", sent, let_in)
+    file.row("a signature is verified after a no", start, by_key_, asks, "answer no", refused, "verified 1", "end open")
     file.row("no end behind an answer", start, by_key_, asks, "end open", "answer yes", sent)
-    file.row("no count of one whose decisions answer", "begin" + start[0][7:], start[1:], "verified 0", "end open")
+    file.row("another count of one whose decisions answer", "begin" + start[0][7:], start[1:], "verified 1", "end open")
     file.row("no answer for one whose decisions answer", "begin" + start[0][7:], start[1:], "answer no", "end open")
 
 

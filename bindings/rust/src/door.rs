@@ -34,6 +34,21 @@ impl<'a, T> List<'a, T> {
     }
 }
 
+/// The method `none`: the letters of the word.
+pub const METHOD_NONE: u32 = 0x6e6f_6e65;
+
+/// The method `password`.
+pub const METHOD_PASSWORD: u32 = 1;
+
+/// The method `publickey`.
+pub const METHOD_PUBLICKEY: u32 = 2;
+
+/// A side is willing to be strict.
+pub const STRICT_YES: u32 = 1;
+
+/// A side isn't willing to be strict.
+pub const STRICT_NO: u32 = 2;
+
 #[repr(C)]
 #[derive(Clone, Copy)]
 pub struct SideInput<'a> {
@@ -47,7 +62,7 @@ pub struct SideInput<'a> {
     pub cookie: Bytes<'a>,
     pub exchange_random: Bytes<'a>,
     pub padding_seed: Bytes<'a>,
-    pub strict: bool,
+    pub strict: u32,
 }
 
 #[repr(C)]
@@ -57,7 +72,7 @@ pub struct AttemptInput<'a> {
     pub algorithm: Bytes<'a>,
     pub secret: Bytes<'a>,
     pub method: u32,
-    pub ask: bool,
+    pub ask: u32,
 }
 
 #[repr(C)]
@@ -66,8 +81,8 @@ pub struct ClientInput<'a> {
     pub server_host_key_algorithms: Bytes<'a>,
     pub plan: List<'a, AttemptInput<'a>>,
     pub trusted_host_keys: List<'a, Bytes<'a>>,
-    pub guess: bool,
-    pub asks: bool,
+    pub guess: u32,
+    pub asks: u32,
     pub answers: Bytes<'a>,
 }
 
@@ -95,7 +110,7 @@ pub struct ServerInput<'a> {
     pub notice_lines: List<'a, Bytes<'a>>,
     pub users: List<'a, UserInput<'a>>,
     pub tries: u32,
-    pub asks: bool,
+    pub asks: u32,
     pub answers: Bytes<'a>,
 }
 

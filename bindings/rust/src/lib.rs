@@ -46,12 +46,13 @@ pub struct Side {
 }
 
 impl Default for Side {
-    /// The algorithms that the library and peers in use have.
+    /// The algorithms that the library and peers in use have. The library also has the cipher `aes256-gcm@openssh.com`: it works
+    /// where both sides are strict, and is slow.
     fn default() -> Side {
         Side {
             softwareversion: "rezdolin".into(),
             kex: "curve25519-sha256,curve25519-sha256@libssh.org".into(),
-            ciphers: "chacha20-poly1305@openssh.com,aes256-gcm@openssh.com".into(),
+            ciphers: "chacha20-poly1305@openssh.com".into(),
             macs: "hmac-sha2-256-etm@openssh.com,hmac-sha2-512-etm@openssh.com,hmac-sha2-256,hmac-sha2-512,hmac-sha1"
                 .into(),
             strict: true,
@@ -73,7 +74,7 @@ impl Side {
             cookie: Bytes::new(&draws.cookie),
             exchange_random: Bytes::new(&draws.exchange_random),
             padding_seed: Bytes::new(&draws.padding_seed),
-            strict: self.strict,
+            strict: if self.strict { door::STRICT_YES } else { door::STRICT_NO },
         }
     }
 }
@@ -93,9 +94,9 @@ pub enum Proof {
 impl Proof {
     fn method(&self) -> u32 {
         match self {
-            Proof::None => 0,
-            Proof::Password(_) => 1,
-            Proof::Key(_) => 2,
+            Proof::None => door::METHOD_NONE,
+            Proof::Password(_) => door::METHOD_PASSWORD,
+            Proof::Key(_) => door::METHOD_PUBLICKEY,
         }
     }
 
@@ -130,9 +131,10 @@ pub enum End {
 pub enum Refused {
     /// Memory ran out: the same call may be made again.
     Memory,
-    /// The parts make no config; the number of the refusal, 1 for C1.
+    /// The parts make no config; the number of the refusal, 1 for C1. With 13 a list names an algorithm that the library hasn't,
+    /// with 14 a private key hasn't 32 bytes.
     Config(u32),
-    /// What was put in can't be read.
+    /// What was put in can't be read: an entry of a server has no user, or an empty password or key.
     Unreadable,
     /// It was answered and hadn't asked.
     Unasked,
@@ -270,8 +272,8 @@ struct Call<'c> {
     question: &'c mut [u8],
 }
 
-/// A client: its parts, and the host keys that it trusts.
-pub struct Client {
+/// What a client is made of. It is the same as long as the client lives.
+pub struct ClientParts {
     /// What it lists.
     pub side: Side,
     /// What is drawn for the connection.
@@ -284,21 +286,40 @@ pub struct Client {
     pub trusted_host_keys: Vec<Vec<u8>>,
     /// Whether it asks if the host key is trusted, and doesn't read the list.
     pub asks: bool,
+}
+
+impl ClientParts {
+    /// The parts of a client that trusts these host keys.
+    #[must_use]
+    pub fn new(draws: Draws, user: &str, plan: Vec<Proof>, trusted_host_keys: Vec<Vec<u8>>) -> ClientParts {
+        ClientParts { side: Side::default(), draws, user: user.into(), plan, trusted_host_keys, asks: false }
+    }
+}
+
+/// A client.
+pub struct Client {
+    parts: ClientParts,
     talk: Talk,
+}
+
+impl From<ClientParts> for Client {
+    /// A client of these parts that has received nothing.
+    fn from(parts: ClientParts) -> Client {
+        Client { parts, talk: Talk::default() }
+    }
 }
 
 impl Client {
     /// A client that has received nothing. Feed it no bytes for what it sends first.
     #[must_use]
     pub fn new(draws: Draws, user: &str, plan: Vec<Proof>, trusted_host_keys: Vec<Vec<u8>>) -> Client {
-        let (side, talk) = (Side::default(), Talk::default());
-        Client { side, draws, user: user.into(), plan, trusted_host_keys, asks: false, talk }
+        ClientParts::new(draws, user, plan, trusted_host_keys).into()
     }
 
     /// A client that has received nothing, and asks whether the host key is trusted.
     #[must_use]
     pub fn asking(draws: Draws, user: &str, plan: Vec<Proof>) -> Client {
-        Client { asks: true, ..Client::new(draws, user, plan, Vec::new()) }
+        ClientParts { asks: true, ..ClientParts::new(draws, user, plan, Vec::new()) }.into()
     }
 
     /// Receives a piece and appends to `out` what is sent. Answers how many bytes of the piece were used: all while it
@@ -328,15 +349,16 @@ impl Client {
     }
 
     fn call(&self, call: Call<'_>) -> EndpointAnswer {
-        let plan: Vec<_> = self.plan.iter().map(|proof| attempt(&self.user, proof)).collect();
-        let trusted: Vec<_> = self.trusted_host_keys.iter().map(|key| Bytes::new(key)).collect();
+        let parts = &self.parts;
+        let plan: Vec<_> = parts.plan.iter().map(|proof| attempt(&parts.user, proof)).collect();
+        let trusted: Vec<_> = parts.trusted_host_keys.iter().map(|key| Bytes::new(key)).collect();
         let input = ClientInput {
-            side: self.side.input(&self.draws),
+            side: parts.side.input(&parts.draws),
             server_host_key_algorithms: Bytes::new(b"ssh-ed25519"),
             plan: List::new(&plan),
             trusted_host_keys: List::new(&trusted),
-            guess: false,
-            asks: self.asks,
+            guess: 0,
+            asks: u32::from(parts.asks),
             answers: Bytes::new(call.answers),
         };
         door::client(&input, call.received, call.skip, call.out, call.record, call.question)
@@ -369,12 +391,12 @@ fn attempt<'a>(user: &'a str, proof: &'a Proof) -> AttemptInput<'a> {
         algorithm: Bytes::new(if is_key { b"ssh-ed25519" } else { b"" }),
         secret: Bytes::new(proof.bytes()),
         method: proof.method(),
-        ask: is_key,
+        ask: u32::from(is_key),
     }
 }
 
-/// A server: its parts, and whom it accepts.
-pub struct Server {
+/// What a server is made of. It is the same as long as the server lives.
+pub struct ServerParts {
     /// What it lists.
     pub side: Side,
     /// What is drawn for the connection.
@@ -391,21 +413,41 @@ pub struct Server {
     pub tries: u32,
     /// Whether it asks who is accepted, and doesn't read the list.
     pub asks: bool,
+}
+
+impl ServerParts {
+    /// The parts of a server that accepts these users.
+    #[must_use]
+    pub fn new(draws: Draws, host_key: [u8; 32], users: Vec<(String, Proof)>) -> ServerParts {
+        let (side, required, banner) = (Side::default(), String::new(), Vec::new());
+        ServerParts { side, draws, host_key, users, required, banner, tries: 6, asks: false }
+    }
+}
+
+/// A server.
+pub struct Server {
+    parts: ServerParts,
     talk: Talk,
+}
+
+impl From<ServerParts> for Server {
+    /// A server of these parts that has received nothing.
+    fn from(parts: ServerParts) -> Server {
+        Server { parts, talk: Talk::default() }
+    }
 }
 
 impl Server {
     /// A server that has received nothing. Feed it no bytes for what it sends first.
     #[must_use]
     pub fn new(draws: Draws, host_key: [u8; 32], users: Vec<(String, Proof)>) -> Server {
-        let (side, required, banner, talk) = (Side::default(), String::new(), Vec::new(), Talk::default());
-        Server { side, draws, host_key, users, required, banner, tries: 6, asks: false, talk }
+        ServerParts::new(draws, host_key, users).into()
     }
 
     /// A server that has received nothing, and asks who is accepted.
     #[must_use]
     pub fn asking(draws: Draws, host_key: [u8; 32]) -> Server {
-        Server { asks: true, ..Server::new(draws, host_key, Vec::new()) }
+        ServerParts { asks: true, ..ServerParts::new(draws, host_key, Vec::new()) }.into()
     }
 
     /// Receives a piece and appends to `out` what is sent. Answers how many bytes of the piece were used: all while it
@@ -435,20 +477,21 @@ impl Server {
     }
 
     fn call(&self, call: Call<'_>) -> EndpointAnswer {
-        let users: Vec<_> = self.users.iter().map(|(user, proof)| user_input(user, proof)).collect();
+        let parts = &self.parts;
+        let users: Vec<_> = parts.users.iter().map(|(user, proof)| user_input(user, proof)).collect();
         let host_keys =
-            [HostKeyInput { algorithm: Bytes::new(b"ssh-ed25519"), private_key: Bytes::new(&self.host_key) }];
+            [HostKeyInput { algorithm: Bytes::new(b"ssh-ed25519"), private_key: Bytes::new(&parts.host_key) }];
         let input = ServerInput {
-            side: self.side.input(&self.draws),
+            side: parts.side.input(&parts.draws),
             host_keys: List::new(&host_keys),
             services: Bytes::new(b"ssh-connection"),
             methods: Bytes::new(b"publickey,password"),
-            required: Bytes::new(self.required.as_bytes()),
-            banner: Bytes::new(&self.banner),
+            required: Bytes::new(parts.required.as_bytes()),
+            banner: Bytes::new(&parts.banner),
             notice_lines: List::new(&[]),
             users: List::new(&users),
-            tries: self.tries,
-            asks: self.asks,
+            tries: parts.tries,
+            asks: u32::from(parts.asks),
             answers: Bytes::new(call.answers),
         };
         door::server(&input, call.received, call.skip, call.out, call.record, call.question)

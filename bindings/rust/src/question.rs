@@ -1,5 +1,6 @@
 //! What an endpoint asks whoever runs it.
 
+use crate::door;
 use crate::link::fields_of;
 use std::fmt;
 
@@ -31,7 +32,7 @@ pub enum Question {
         user: Vec<u8>,
         /// The service that is to start.
         service: Vec<u8>,
-        /// By what: nothing, a password, or a public key. The signature of a request by a key is verified; a query has none.
+        /// By what: nothing, a password, or a public key. The signature of a request by a key is verified after a yes; a query has none.
         proof: super::Proof,
     },
 }
@@ -56,12 +57,13 @@ impl Question {
         if kind == [0] {
             return Question::HostKey { algorithm: algorithm.to_vec(), key: key.to_vec() };
         }
-        let proof = match method {
-            [0] => super::Proof::None,
-            [1] => super::Proof::Password(password.to_vec()),
-            _ => super::Proof::Key(key.to_vec()),
+        let number_in = |bytes: &[u8]| bytes.iter().fold(0, |sum, byte| sum << 8 | u32::from(*byte));
+        let proof = match number_in(method) {
+            door::METHOD_NONE => super::Proof::None,
+            door::METHOD_PASSWORD => super::Proof::Password(password.to_vec()),
+            door::METHOD_PUBLICKEY => super::Proof::Key(key.to_vec()),
+            other => unreachable!("a request has no method {other}"),
         };
-        let number = number.iter().fold(0, |sum, byte| sum << 8 | u32::from(*byte));
-        Question::User { number, user: user.to_vec(), service: service.to_vec(), proof }
+        Question::User { number: number_in(number), user: user.to_vec(), service: service.to_vec(), proof }
     }
 }

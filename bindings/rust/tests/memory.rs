@@ -1,6 +1,8 @@
 //! A client and a server meet in memory.
 
-use rezdolin::{Client, Draws, End, Fed, LinkFault, Proof, Question, Refused, Server, public_key};
+use rezdolin::{
+    Client, ClientParts, Draws, End, Fed, LinkFault, Proof, Question, Refused, Server, ServerParts, public_key,
+};
 
 const HOST: [u8; 32] = [9; 32];
 const USER: [u8; 32] = [8; 32];
@@ -83,12 +85,35 @@ fn refusals_are_told() {
 
 #[test]
 fn parts_are_refused() {
-    let mut client = client(vec![]);
-    client.side.kex = String::new();
-    assert_eq!(client.feed(b"", &mut Vec::new()), Err(Refused::Config(1)));
-    let mut server = server();
-    server.tries = 21;
-    assert_eq!(server.feed(b"", &mut Vec::new()), Err(Refused::Config(9)));
+    let mut parts = ClientParts::new(draws(1), "al", vec![], vec![]);
+    parts.side.kex = String::new();
+    assert_eq!(Client::from(parts).feed(b"", &mut Vec::new()), Err(Refused::Config(1)));
+    let mut parts = ServerParts::new(draws(5), HOST, vec![]);
+    parts.tries = 21;
+    assert_eq!(Server::from(parts).feed(b"", &mut Vec::new()), Err(Refused::Config(9)));
+    let mut parts = ClientParts::new(draws(1), "al", vec![], vec![]);
+    parts.side.ciphers = "chacha20-poly1305@openssh.com,aes128-ctr".into();
+    assert_eq!(Client::from(parts).feed(b"", &mut Vec::new()), Err(Refused::Config(13)));
+    for len in [0, 31, 33, 64] {
+        let mut client = Client::new(draws(1), "al", vec![Proof::Key(vec![9; len])], vec![]);
+        assert_eq!(client.feed(b"", &mut Vec::new()), Err(Refused::Config(14)));
+    }
+}
+
+#[test]
+fn entries_that_let_anybody_in_are_refused() {
+    let refuses = |user: &str, proof| {
+        let users = vec![("al".into(), Proof::Password(b"x".to_vec())), (user.into(), proof)];
+        assert_eq!(Server::new(draws(5), HOST, users).feed(b"", &mut Vec::new()), Err(Refused::Unreadable));
+    };
+    refuses("al", Proof::Password(Vec::new()));
+    refuses("al", Proof::Key(Vec::new()));
+    refuses("", Proof::Password(b"secret".to_vec()));
+    refuses("", Proof::None);
+    let mut client = Client::new(draws(1), "al", vec![Proof::None], vec![public_key(&HOST).unwrap()]);
+    let mut server = Server::new(draws(5), HOST, vec![("al".into(), Proof::None)]);
+    meet(&mut client, &mut server, 1000).unwrap();
+    assert_eq!((client.end(), server.end()), (End::Authenticated, End::Authenticated));
 }
 
 /// Both ask and talk until neither has more to send; the client trusts the host key, the server decides so.

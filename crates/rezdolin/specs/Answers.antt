@@ -9,7 +9,8 @@ use Rattle.sshcore.specs.declared.end.Fault.TheVariants as fault
 use Rattle.sshcore.specs.ConfigRules.{rule_number}
 use Rattle.sshcore.specs.EndData.{Authenticated, Closed, Disconnected, EndData, Failed, Open}
 use Rattle.rezdolin.specs.declared.answers.EndNumbers.{EndNumbers}
-use Rattle.rezdolin.specs.declared.answers.TheConstants.{END_AUTHENTICATED, END_CLOSED, END_DISCONNECTED, END_FAILED, END_OPEN}
+use Rattle.rezdolin.specs.declared.answers.EndpointAnswer.{EndpointAnswer}
+use Rattle.rezdolin.specs.declared.answers.TheConstants.{END_AUTHENTICATED, END_CLOSED, END_DISCONNECTED, END_FAILED, END_OPEN, STATUS_ROOM}
 use Rattle.rezdolin.specs.declared.parts.NoConfig.{NoConfig}
 use Rattle.rezdolin.specs.declared.parts.NoConfig.TheVariants as no
 
@@ -45,6 +46,7 @@ fault_numbers fault.TooManyTries = three END_FAILED 13 0
 fault_numbers fault.NoMoreMethods = three END_FAILED 14 0
 fault_numbers fault.Memory = three END_FAILED 15 0
 fault_numbers fault.Cut = three END_FAILED 16 0
+fault_numbers fault.TooMuchIgnored = three END_FAILED 17 0
 
 -- how an endpoint has ended
 abbrev pub end_numbers : EndData → EndNumbers
@@ -58,3 +60,8 @@ end_numbers (Disconnected reason) = three END_DISCONNECTED 0 reason
 abbrev pub IsPartsFault : NoConfig → ℕ → Type 0
 IsPartsFault (no.Input f) number = ⊥
 IsPartsFault (no.Parts code) number = (code ≢ config.Memory) × (number ≡ rule_number code)
+IsPartsFault (no.Unfit n) number = number ≡ n
+
+-- a session or a question has no room: how much they have to have, and nothing else
+abbrev pub no_room : ℕ → ℕ → EndpointAnswer
+no_room s q = record { status = STATUS_ROOM; config = 0; end = END_OPEN; fault = 0; detail = 0; used = 0; sent = 0; written = 0; session_len = s; question_len = q }

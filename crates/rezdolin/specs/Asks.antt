@@ -18,16 +18,22 @@ use Rattle.rezdolin.specs.declared.answers.EndNumbers.{EndNumbers}
 use Rattle.rezdolin.specs.declared.answers.EndpointAnswer.{EndpointAnswer}
 use Rattle.rezdolin.specs.declared.answers.TheConstants.{ASKS_HOST_KEY, ASKS_USER, END_ASKS}
 use Rattle.rezdolin.specs.declared.inputs.TheConstants.{METHOD_NONE, METHOD_PASSWORD, METHOD_PUBLICKEY}
-use Rattle.rezdolin.specs.Answers.{end_numbers, three}
+use Rattle.rezdolin.specs.Answers.{end_numbers, no_room, three}
 use Rattle.rezdolin.specs.Records.{strings}
 use Rattle.rezdolin.specs.Talks.{IsRecorded, IsTalk, IsWrittenFrom, numbers_in}
+
+-- the number of the method by which a request proves its user
+abbrev pub method_of : ProofData → ℕ
+method_of NoProof = METHOD_NONE
+method_of (PasswordProof password) = METHOD_PASSWORD
+method_of (KeyProof algorithm key) = METHOD_PUBLICKEY
 
 -- The fields of a question: what it asks of; the request's number, user and service, of a host key none; the method by which the request
 -- proves its user; the algorithm and the key; and the password.
 abbrev pub proof_fields : ProofData → List (List ℕ)
-proof_fields NoProof = (METHOD_NONE ∷ []) ∷ [] ∷ [] ∷ [] ∷ []
-proof_fields (PasswordProof password) = (METHOD_PASSWORD ∷ []) ∷ [] ∷ [] ∷ password ∷ []
-proof_fields (KeyProof algorithm key) = (METHOD_PUBLICKEY ∷ []) ∷ algorithm ∷ key ∷ [] ∷ []
+proof_fields NoProof = uint32 (method_of NoProof) ∷ [] ∷ [] ∷ [] ∷ []
+proof_fields (PasswordProof password) = uint32 (method_of (PasswordProof password)) ∷ [] ∷ [] ∷ password ∷ []
+proof_fields (KeyProof algorithm key) = uint32 (method_of (KeyProof algorithm key)) ∷ algorithm ∷ key ∷ [] ∷ []
 
 abbrev pub question_fields : QuestionData → List (List ℕ)
 question_fields (HostKeyQuestion algorithm key) = (ASKS_HOST_KEY ∷ []) ∷ [] ∷ [] ∷ [] ∷ [] ∷ algorithm ∷ key ∷ [] ∷ []
@@ -101,7 +107,8 @@ pub record IsAskingTalk (setup : DecisionsData → Setup) (answers received : Li
   pub some : (d : DecisionsData) × GiveAll d met
   pub comes_to : ComesTo setup met last received used sent end spelled question
 
--- What a call answers that made an endpoint which asks, whose answers can be read: its bytes are in the rooms, and its question is.
+-- What a call answers that made an endpoint which asks, whose answers can be read: its bytes are in the rooms, and its question is. It
+-- has sent all that is skipped.
 pub record AsksAnswers (setup : DecisionsData → Setup) (answers received : List ℕ) (skip : ℕ) (room record_room question_room : List ℕ) (answer : EndpointAnswer)
     (new new_record new_question : List ℕ) : Type 0 where
   pub readable : AreAnswers answers
@@ -110,11 +117,34 @@ pub record AsksAnswers (setup : DecisionsData → Setup) (answers received : Lis
   pub question : List ℕ
   pub talk : IsAskingTalk setup answers received answer.used sent (numbers_in answer) spelled question
   pub sent_is : answer.sent ≡ length sent
+  pub skipped : skip ≤ length sent
   pub record_is : answer.session_len ≡ length spelled
   pub question_is : answer.question_len ≡ length question
   pub written : IsWrittenFrom sent skip room answer.written new
   pub recorded : IsRecorded spelled record_room new_record
   pub asked : IsRecorded question question_room new_question
+
+-- What a call answers whose endpoint's session or question has no room: how much they have to have.
+pub record AsksLackRoom (setup : DecisionsData → Setup) (answers received record_room question_room : List ℕ) (answer : EndpointAnswer) : Type 0 where
+  pub readable : AreAnswers answers
+  pub used : ℕ
+  pub sent : List ℕ
+  pub end : EndNumbers
+  pub spelled : List ℕ
+  pub question : List ℕ
+  pub talk : IsAskingTalk setup answers received used sent end spelled question
+  pub short : (length record_room < length spelled) ⊎ (length question_room < length question)
+  pub answer_is : answer ≡ no_room (length spelled) (length question)
+
+-- More is skipped than an endpoint that asks has sent: it isn't the one of the calls before.
+pub record AsksSkipUnsent (setup : DecisionsData → Setup) (answers received : List ℕ) (skip : ℕ) : Type 0 where
+  pub used : ℕ
+  pub sent : List ℕ
+  pub end : EndNumbers
+  pub spelled : List ℕ
+  pub question : List ℕ
+  pub talk : IsAskingTalk setup answers received used sent end spelled question
+  pub unsent : length sent < skip
 
 -- An endpoint has used all of these bytes, or has ended, and asks nothing more. Its owner didn't end it, and memory didn't run out.
 pub record AsksNoMore (setup : Setup) (received : List ℕ) : Type 0 where

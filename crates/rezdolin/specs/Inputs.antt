@@ -1,6 +1,6 @@
 -- What a program puts in, as configs have it.
 
-use Rattle.std.specs.Prelude.{ℕ, ◌==◌, ◌≤◌, if◌then◌else◌, List, [], length, map, Option, None, Some}
+use Rattle.std.specs.Prelude.{ℕ, ◌==◌, if◌then◌else◌, List, [], ◌∷◌, codes, length, map, Option, None, Some}
 use Rattle.std.specs.List.{AllByRecursion, slice_split}
 use Rattle.std.specs.Str.{IsUtf8}
 use Rattle.sshcore.specs.ConfigParts.{AttemptData, ByKey, ByNothing, ByPassword, ClientData, CredentialData, HostKeyData, ServerData, SideData}
@@ -9,7 +9,8 @@ use Rattle.rezdolin.specs.declared.inputs.ClientInput.{ClientInput}
 use Rattle.rezdolin.specs.declared.inputs.HostKeyInput.{HostKeyInput}
 use Rattle.rezdolin.specs.declared.inputs.ServerInput.{ServerInput}
 use Rattle.rezdolin.specs.declared.inputs.SideInput.{SideInput}
-use Rattle.rezdolin.specs.declared.inputs.TheConstants.{METHOD_NONE, METHOD_PASSWORD, METHOD_PUBLICKEY}
+use Rattle.rezdolin.specs.declared.inputs.TheConstants.{IGNORED_LIMIT, METHOD_NONE, METHOD_PASSWORD, STRICT_YES}
+use Rattle.rezdolin.specs.Readable.{IsMethod}
 
 -- no bytes are nothing
 abbrev pub unless_empty : List ℕ → Option (List ℕ)
@@ -32,10 +33,11 @@ side_of side = record {
   encryption_server_to_client = names_of side.encryption_server_to_client.now;
   mac_client_to_server = names_of side.mac_client_to_server.now;
   mac_server_to_client = names_of side.mac_server_to_client.now;
-  strict = side.strict;
+  strict = side.strict == STRICT_YES;
   cookie = side.cookie.now;
   random = side.exchange_random.now;
   seed = side.padding_seed.now;
+  ignored_limit = Some IGNORED_LIMIT;
 }
 
 -- how an attempt proves its user, by the number of its method
@@ -43,7 +45,7 @@ abbrev pub proving_by : AttemptInput → CredentialData
 proving_by attempt =
     if attempt.method == METHOD_NONE then ByNothing
     else if attempt.method == METHOD_PASSWORD then ByPassword attempt.secret.now
-    else ByKey attempt.algorithm.now attempt.secret.now attempt.ask
+    else ByKey attempt.algorithm.now attempt.secret.now (attempt.ask == 1)
 
 abbrev pub attempt_by : AttemptInput → AttemptData
 attempt_by attempt = record { user = attempt.user.now; service = attempt.service.now; proving = proving_by attempt }
@@ -56,9 +58,13 @@ abbrev pub client_of : ClientInput → ClientData
 client_of client = record {
   side = side_of client.side;
   host_key_algorithms = names_of client.server_host_key_algorithms.now;
-  guess = client.guess;
+  guess = client.guess == 1;
   plan = map attempt_by client.plan.now;
 }
+
+-- the algorithms of users' keys that a server tells a client that asks: those by which the suite verifies (RFC 8308 section 3.1)
+abbrev pub user_algorithms : List (List ℕ)
+user_algorithms = codes "ssh-ed25519" ∷ codes "rsa-sha2-512" ∷ codes "rsa-sha2-256" ∷ []
 
 -- the config of a server
 abbrev pub server_of : ServerInput → ServerData
@@ -68,6 +74,7 @@ server_of server = record {
   services = names_of server.services.now;
   methods = names_of server.methods.now;
   required = names_of server.required.now;
+  signature_algorithms = user_algorithms;
   tries = server.tries;
   banner = unless_empty server.banner.now;
   notices = map (λ line. line.now) server.notice_lines.now;
@@ -87,7 +94,7 @@ pub record AreAttemptTexts (attempt : AttemptInput) : Type 0 where
   pub user : IsUtf8 attempt.user.now
   pub service : IsUtf8 attempt.service.now
   pub algorithm : IsUtf8 attempt.algorithm.now
-  pub method : attempt.method ≤ METHOD_PUBLICKEY
+  pub method : IsMethod attempt.method
 
 pub record AreClientTexts (client : ClientInput) : Type 0 where
   pub side : AreSideTexts client.side

@@ -1,4 +1,5 @@
 pub mod Inputs
+pub mod Readable
 pub mod Refusals
 pub mod Trust
 pub mod Answers

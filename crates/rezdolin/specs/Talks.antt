@@ -1,6 +1,6 @@
 -- What a call answers of an endpoint.
 
-use Rattle.std.specs.Prelude.{◌≡◌, ◌≢◌, ◌⊎◌, ℕ, ◌-◌, ◌≤◌, false, List, [], codes, length, take, drop}
+use Rattle.std.specs.Prelude.{◌≡◌, ◌≢◌, ◌⊎◌, ℕ, ◌-◌, ◌≤◌, ◌<◌, false, List, [], ◌∷◌, ◌++◌, codes, length, take, drop}
 use Rattle.sshpacket.specs.Suite.{SuiteData}
 use Rattle.sshcore.specs.declared.end.Fault.TheVariants as fault
 use Rattle.sshcore.specs.declared.input.Input.{Input}
@@ -13,7 +13,7 @@ use Rattle.sshcore.specs.EndpointParts.{Setup}
 use Rattle.sshcore.specs.Sessions.{IsSession}
 use Rattle.rezdolin.specs.declared.answers.EndNumbers.{EndNumbers}
 use Rattle.rezdolin.specs.declared.answers.EndpointAnswer.{EndpointAnswer}
-use Rattle.rezdolin.specs.Answers.{end_numbers}
+use Rattle.rezdolin.specs.Answers.{end_numbers, no_room}
 use Rattle.rezdolin.specs.Directions.{IsPut}
 use Rattle.rezdolin.specs.Records.{record_of}
 
@@ -38,22 +38,47 @@ abbrev pub IsWrittenFrom : List ℕ → ℕ → List ℕ → ℕ → List ℕ �
 IsWrittenFrom sent skip room n new =
     (n ≤ length room) × ((n ≡ length room) ⊎ (n ≡ length sent - skip)) × (take n new ≡ take n (drop skip sent)) × (drop n new ≡ drop n room)
 
--- the record stands in its room, or the room is too small and unchanged
+-- the record stands at the front of its room
 abbrev pub IsRecorded : List ℕ → List ℕ → List ℕ → Type 0
-IsRecorded spelled room new = (length spelled ≤ length room → IsPut spelled room (length spelled) new) × ((length spelled ≤ length room → ⊥) → new ≡ room)
+IsRecorded spelled room new = IsPut spelled room (length spelled) new
+
+-- a room whose first field is empty: the field's length, four bytes, is 0, or as many of them as there is room for
+abbrev pub emptied : List ℕ → List ℕ
+emptied room = take (length room) (0 ∷ 0 ∷ 0 ∷ 0 ∷ []) ++ drop 4 room
 
 abbrev pub numbers_in : EndpointAnswer → EndNumbers
 numbers_in answer = record { end = answer.end; fault = answer.fault; detail = answer.detail }
 
--- What a call answers that made an endpoint: the endpoint's own, told in numbers, and its bytes in the rooms.
+-- What a call answers that made an endpoint: the endpoint's own, told in numbers, and its bytes in the rooms. It has sent all that
+-- is skipped.
 pub record Answers (setup : Setup) (received : List ℕ) (skip : ℕ) (room record_room : List ℕ) (answer : EndpointAnswer) (new new_record : List ℕ) : Type 0 where
   pub sent : List ℕ
   pub spelled : List ℕ
   pub talk : IsTalk setup received answer.used sent (numbers_in answer) spelled
   pub sent_is : answer.sent ≡ length sent
+  pub skipped : skip ≤ length sent
   pub record_is : answer.session_len ≡ length spelled
   pub written : IsWrittenFrom sent skip room answer.written new
   pub recorded : IsRecorded spelled record_room new_record
+
+-- What a call answers whose endpoint hands over a session that has no room: how much its record has to have.
+pub record LacksRoom (setup : Setup) (received record_room : List ℕ) (answer : EndpointAnswer) : Type 0 where
+  pub used : ℕ
+  pub sent : List ℕ
+  pub end : EndNumbers
+  pub spelled : List ℕ
+  pub talk : IsTalk setup received used sent end spelled
+  pub short : length record_room < length spelled
+  pub answer_is : answer ≡ no_room (length spelled) 0
+
+-- More is skipped than the endpoint has sent: it isn't the one of the calls before.
+pub record SkipsUnsent (setup : Setup) (received : List ℕ) (skip : ℕ) : Type 0 where
+  pub used : ℕ
+  pub sent : List ℕ
+  pub end : EndNumbers
+  pub spelled : List ℕ
+  pub talk : IsTalk setup received used sent end spelled
+  pub unsent : length sent < skip
 
 -- the public key of this private key stands at the front of the room
 abbrev pub IsBlob : SuiteData → List ℕ → List ℕ → ℕ → List ℕ → Type 0

@@ -5,7 +5,7 @@ ghost use Rattle.sshcore.specs.ConfigRules.{rule_number};
 ghost use Rattle.sshcore.specs.EndData.{end_data};
 ghost use Rattle.rezdolin.specs.declared.parts.NoConfig.TheVariants as no;
 ghost use Rattle.rezdolin.specs.declared.texts.InputFault.TheVariants as input;
-ghost use Rattle.rezdolin.specs.Answers.{IsPartsFault, end_numbers, fault_numbers, field_number};
+ghost use Rattle.rezdolin.specs.Answers.{IsPartsFault, end_numbers, fault_numbers, field_number, no_room};
 
 use crate::parts::NoConfig;
 use crate::texts::InputFault;
@@ -25,7 +25,8 @@ pub const STATUS_CONFIG: u32 = 2;
 /// What was put in can't be read.
 pub const STATUS_UNREADABLE: u32 = 3;
 
-/// The room of `out` is too small, and nothing has changed.
+/// A room is too small: of a call that makes bytes that of `out`, and nothing has changed; of an endpoint's call that of the
+/// session or of the question.
 pub const STATUS_ROOM: u32 = 4;
 
 /// The payload has no byte, or more than 32768.
@@ -68,9 +69,10 @@ pub const ASKS_USER: u32 = 1;
 #[repr(C)]
 #[derive(Clone, Copy, Debug)]
 pub struct EndpointAnswer {
-    /// One of `STATUS_`, from 0 to 3. But for 0 and `config` all else says nothing.
+    /// One of `STATUS_`, from 0 to 4. Where it isn't 0, all else is 0, but for `config`, and of 4 for `session_len` and
+    /// `question_len`.
     pub status: u32,
-    /// Of refused parts: the number of the refusal, 1 for C1; else 0.
+    /// Of refused parts: the number of the refusal, 1 for C1 to 14 for C14; else 0.
     pub config: u32,
     /// One of `END_`.
     pub end: u32,
@@ -86,9 +88,9 @@ pub struct EndpointAnswer {
     pub sent: usize,
     /// How many of them this call has written to `out`.
     pub written: usize,
-    /// Of an authenticated endpoint: how many bytes the record of its session has; else 0.
+    /// Of an authenticated endpoint: how many bytes the record of its session has, also where it has no room; else 0.
     pub session_len: usize,
-    /// Of an endpoint that asks: how many bytes the record of its question has; else 0.
+    /// Of an endpoint that asks: how many bytes the record of its question has, also where it has no room; else 0.
     pub question_len: usize,
 }
 
@@ -148,6 +150,7 @@ fn fault_numbers(fault: &Fault) -> EndNumbers
         Fault::NoMoreMethods => numbers(END_FAILED, 14, 0),
         Fault::Memory => numbers(END_FAILED, 15, 0),
         Fault::Cut => numbers(END_FAILED, 16, 0),
+        Fault::TooMuchIgnored => numbers(END_FAILED, 17, 0),
     }
 }
 
@@ -208,6 +211,7 @@ pub(crate) fn no_config(fault: NoConfig) -> EndpointAnswer
         NoConfig::Input(InputFault::Memory) => unanswered(STATUS_MEMORY, 0),
         NoConfig::Parts(ConfigFault::Memory) => unanswered(STATUS_MEMORY, 0),
         NoConfig::Parts(fault) => unanswered(STATUS_CONFIG, config_number(fault)),
+        NoConfig::Unfit(number) => unanswered(STATUS_CONFIG, number),
     }
 }
 
@@ -226,6 +230,24 @@ pub(crate) fn unanswered(status: u32, config: u32) -> EndpointAnswer
         written: 0,
         session_len: 0,
         question_len: 0,
+    }
+}
+
+/// The answer of an endpoint whose session or question has no room: how much they have to have.
+pub(crate) fn no_room(session_len: usize, question_len: usize) -> EndpointAnswer
+    ensures { result ≡ no_room session_len question_len }
+{
+    EndpointAnswer {
+        status: STATUS_ROOM,
+        config: 0,
+        end: END_OPEN,
+        fault: 0,
+        detail: 0,
+        used: 0,
+        sent: 0,
+        written: 0,
+        session_len,
+        question_len,
     }
 }
 

@@ -1,6 +1,6 @@
 //! One endpoint that asks, and that lives for one call: it is given the answers of the calls before.
 
-ghost use Rattle.std.specs.Prelude.{◌≡◌, ◌≢◌, ◌≤◌, [], IfErr, IfOk, None, Some, false, length, map, true};
+ghost use Rattle.std.specs.Prelude.{◌≡◌, ◌≢◌, ◌⊎◌, ◌≤◌, ◌<◌, [], IfErr, IfOk, None, Some, false, length, map, true};
 ghost use Rattle.sshcore.specs.Asking.{AskingMade, asked_by, asking_end};
 ghost use Rattle.sshcore.specs.AskingData.{WaitingData};
 ghost use Rattle.sshcore.specs.EndData.{Open};
@@ -9,14 +9,15 @@ ghost use Rattle.sshcore.specs.Questions.{question_at};
 ghost use Rattle.sshcore.specs.StateData.{state_data};
 ghost use Rattle.sshsuite.specs.Deployed.{deployed};
 ghost use Rattle.rezdolin.specs.declared.asking.AskFault.TheVariants as ask;
-ghost use Rattle.rezdolin.specs.declared.answers.TheConstants.{STATUS_CONFIG};
-ghost use Rattle.rezdolin.specs.Asks.{AreAnswers, AreTooMany, AreUnfit, AsksAnswers, IsAskingTalk, is_yes, told_end, told_question};
+ghost use Rattle.rezdolin.specs.declared.answers.TheConstants.{STATUS_CONFIG, STATUS_ROOM};
+ghost use Rattle.rezdolin.specs.Answers.{no_room};
+ghost use Rattle.rezdolin.specs.Asks.{AreAnswers, AreTooMany, AreUnfit, AsksAnswers, AsksLackRoom, AsksSkipUnsent, IsAskingTalk, is_yes, told_end, told_question};
 ghost use Rattle.rezdolin.specs.Talks.{IsRecorded, IsWrittenFrom, numbers_in};
 ghost use Rattle.rezdolin.specs.Carried.{IsCarried, IsReadOn, WentOn};
 
 use crate::answers::{
     END_ASKS, EndNumbers, EndpointAnswer, STATUS_ANSWERED, STATUS_MEMORY, STATUS_UNREADABLE,
-    end_numbers, numbers, unanswered,
+    end_numbers, no_room, numbers, unanswered,
 };
 use crate::copying::{copied_from, is_copied};
 use crate::question::question_record;
@@ -72,9 +73,10 @@ pub(crate) fn asking_client(
     question: &mut [u8],
 ) -> EndpointAnswer
     ensures asks { result.status ≡ STATUS_ANSWERED → AsksAnswers (λ d. client_setup deployed d config.now) answers.now received.now skip out.old session.old question.old result out.new session.new question.new }
-    ensures unreadable { result.status ≡ STATUS_UNREADABLE → AreUnfit (λ d. client_setup deployed d config.now) answers.now received.now }
+    ensures room { result.status ≡ STATUS_ROOM → AsksLackRoom (λ d. client_setup deployed d config.now) answers.now received.now session.old question.old result }
+    ensures unreadable { result.status ≡ STATUS_UNREADABLE → AreUnfit (λ d. client_setup deployed d config.now) answers.now received.now ⊎ AsksSkipUnsent (λ d. client_setup deployed d config.now) answers.now received.now skip }
     ensures config { (result.status ≢ STATUS_CONFIG) × (result.config ≡ 0) }
-    ensures statuses { result.status ≤ STATUS_UNREADABLE }
+    ensures statuses { result.status ≤ STATUS_ROOM }
     ensures kept { result.status ≢ STATUS_ANSWERED → (out.new ≡ out.old) × (session.new ≡ session.old) × (question.new ≡ question.old) }
 {
     if !are_answers(answers) {
@@ -98,9 +100,10 @@ pub(crate) fn asking_server(
     question: &mut [u8],
 ) -> EndpointAnswer
     ensures asks { result.status ≡ STATUS_ANSWERED → AsksAnswers (λ d. server_setup deployed d config.now) answers.now received.now skip out.old session.old question.old result out.new session.new question.new }
-    ensures unreadable { result.status ≡ STATUS_UNREADABLE → AreUnfit (λ d. server_setup deployed d config.now) answers.now received.now }
+    ensures room { result.status ≡ STATUS_ROOM → AsksLackRoom (λ d. server_setup deployed d config.now) answers.now received.now session.old question.old result }
+    ensures unreadable { result.status ≡ STATUS_UNREADABLE → AreUnfit (λ d. server_setup deployed d config.now) answers.now received.now ⊎ AsksSkipUnsent (λ d. server_setup deployed d config.now) answers.now received.now skip }
     ensures config { (result.status ≢ STATUS_CONFIG) × (result.config ≡ 0) }
-    ensures statuses { result.status ≤ STATUS_UNREADABLE }
+    ensures statuses { result.status ≤ STATUS_ROOM }
     ensures kept { result.status ≢ STATUS_ANSWERED → (out.new ≡ out.old) × (session.new ≡ session.old) × (question.new ≡ question.old) }
 {
     if !are_answers(answers) {
@@ -284,7 +287,7 @@ fn read_on(
     }
 }
 
-/// The answer of a talk: what is sent from `skip` on, and both records where there is room for all of them.
+/// The answer of a talk: what is sent from `skip` on, and both records; or that one has no room, or that less than that is sent.
 fn tell(
     talk: &AskingTalk,
     skip: usize,
@@ -292,13 +295,25 @@ fn tell(
     session: &mut [u8],
     question: &mut [u8],
 ) -> EndpointAnswer
-    ensures numbers { (result.status ≡ STATUS_ANSWERED) × (numbers_in result ≡ talk.now.end) × (result.used ≡ talk.now.used)
-        × (result.sent ≡ length talk.now.sent.items) × (result.session_len ≡ length talk.now.spelled.items) × (result.question_len ≡ length talk.now.question.items) }
-    ensures config { result.config ≡ 0 }
-    ensures written { IsWrittenFrom talk.now.sent.items skip out.old result.written out.new }
-    ensures recorded { IsRecorded talk.now.spelled.items session.old session.new }
-    ensures asked { IsRecorded talk.now.question.items question.old question.new }
+    ensures numbers { result.status ≡ STATUS_ANSWERED → (numbers_in result ≡ talk.now.end) × (result.used ≡ talk.now.used)
+        × (result.sent ≡ length talk.now.sent.items) × (skip ≤ length talk.now.sent.items) × (result.session_len ≡ length talk.now.spelled.items)
+        × (result.question_len ≡ length talk.now.question.items) }
+    ensures written { result.status ≡ STATUS_ANSWERED → IsWrittenFrom talk.now.sent.items skip out.old result.written out.new }
+    ensures recorded { result.status ≡ STATUS_ANSWERED → IsRecorded talk.now.spelled.items session.old session.new }
+    ensures asked { result.status ≡ STATUS_ANSWERED → IsRecorded talk.now.question.items question.old question.new }
+    ensures room { result.status ≡ STATUS_ROOM → ((length session.old < length talk.now.spelled.items) ⊎ (length question.old < length talk.now.question.items))
+        × (result ≡ no_room (length talk.now.spelled.items) (length talk.now.question.items)) }
+    ensures unsent { result.status ≡ STATUS_UNREADABLE → length talk.now.sent.items < skip }
+    ensures statuses { (result.status ≢ STATUS_MEMORY) × (result.status ≤ STATUS_ROOM) }
+    ensures config { (result.status ≢ STATUS_CONFIG) × (result.config ≡ 0) }
+    ensures kept { result.status ≢ STATUS_ANSWERED → (out.new ≡ out.old) × (session.new ≡ session.old) × (question.new ≡ question.old) }
 {
+    if talk.sent.len() < skip {
+        return unanswered(STATUS_UNREADABLE, 0);
+    }
+    if session.len() < talk.spelled.len() || question.len() < talk.question.len() {
+        return no_room(talk.spelled.len(), talk.question.len());
+    }
     let written = copied_from(&talk.sent, skip, out);
     is_copied(&talk.spelled, session);
     is_copied(&talk.question, question);

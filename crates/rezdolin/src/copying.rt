@@ -2,7 +2,7 @@
 
 ghost use Rattle.std.specs.Prelude.{◌≡◌, ◌≤◌, false, length, true};
 ghost use Rattle.rezdolin.specs.Directions.{IsPut};
-ghost use Rattle.rezdolin.specs.Talks.{IsWrittenFrom};
+ghost use Rattle.rezdolin.specs.Talks.{IsWrittenFrom, emptied};
 
 /// Copies as many of the bytes from `skip` on as there is room for, and answers how many.
 pub(crate) fn copied_from(from: &[u8], skip: usize, out: &mut [u8]) -> usize
@@ -12,6 +12,15 @@ pub(crate) fn copied_from(from: &[u8], skip: usize, out: &mut [u8]) -> usize
     let count = rest.len().min(out.len());
     out[..count].copy_from_slice(&rest[..count]);
     count
+}
+
+/// Makes the first field of a record that stands here empty: its length, four bytes, is 0, or as many of them as there is room
+/// for.
+pub(crate) fn empty(room: &mut [u8])
+    ensures { room.new ≡ emptied room.old }
+{
+    let count = room.len().min(4);
+    room[..count].copy_from_slice(&[0; 4][..count]);
 }
 
 /// Copies all of the bytes where there is room for them, and answers whether there was.

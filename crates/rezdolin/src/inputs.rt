@@ -3,7 +3,12 @@
 //! Everything is lent for one call. A list of names is its text, names with single commas between (RFC 4251 section 5);
 //! no bytes are the empty list.
 
-/// What both sides have. The fields are those of [`SideParts`](sshcore::SideParts), with their limits.
+/// How many bytes of packets that say nothing a side takes after NEWKEYS (`ignored_limit` of
+/// [`SideParts`](sshcore::SideParts)): 1 MiB.
+pub const IGNORED_LIMIT: u32 = 1048576;
+
+/// What both sides have. The fields are those of [`SideParts`](sshcore::SideParts), with their limits; its `ignored_limit`
+/// is [`IGNORED_LIMIT`].
 #[repr(C)]
 #[derive(Clone, Copy)]
 pub struct SideInput<'a> {
@@ -27,9 +32,15 @@ pub struct SideInput<'a> {
     pub exchange_random: &'a [u8],
     /// The secret of which padding is made: 32 random bytes of this connection.
     pub padding_seed: &'a [u8],
-    /// Whether the side is willing to be strict (OpenSSH PROTOCOL section 1.10).
-    pub strict: bool,
+    /// Whether the side is willing to be strict (OpenSSH PROTOCOL section 1.10): [`STRICT_YES`] or [`STRICT_NO`].
+    pub strict: u32,
 }
+
+/// The side is willing to be strict.
+pub const STRICT_YES: u32 = 1;
+
+/// The side isn't willing to be strict. It isn't 0, so that a field which was forgotten doesn't say it.
+pub const STRICT_NO: u32 = 2;
 
 /// One attempt of a client's plan (RFC 4252 section 5).
 #[repr(C)]
@@ -45,12 +56,13 @@ pub struct AttemptInput<'a> {
     pub secret: &'a [u8],
     /// How the user is proved: [`METHOD_NONE`], [`METHOD_PASSWORD`] or [`METHOD_PUBLICKEY`].
     pub method: u32,
-    /// Of a public key: whether the server is asked first if it would do.
-    pub ask: bool,
+    /// Of a public key: whether the server is asked first if it would do, 1 for yes and 0 for no.
+    pub ask: u32,
 }
 
-/// The method `none` (RFC 4252 section 5.2).
-pub const METHOD_NONE: u32 = 0;
+/// The method `none` (RFC 4252 section 5.2): the letters of the word. It isn't 0, so that a field which was forgotten accepts
+/// nobody.
+pub const METHOD_NONE: u32 = 0x6e6f_6e65;
 
 /// The method `password` (RFC 4252 section 8).
 pub const METHOD_PASSWORD: u32 = 1;
@@ -70,10 +82,10 @@ pub struct ClientInput<'a> {
     pub plan: &'a [AttemptInput<'a>],
     /// The host keys that are trusted, each a public key as the server sends it.
     pub trusted_host_keys: &'a [&'a [u8]],
-    /// Whether the client announces a guess (RFC 4253 section 7).
-    pub guess: bool,
-    /// Whether the program is asked if the host key is trusted. Then `trusted_host_keys` isn't read.
-    pub asks: bool,
+    /// Whether the client announces a guess (RFC 4253 section 7), 1 for yes and 0 for no.
+    pub guess: u32,
+    /// Whether the program is asked if the host key is trusted, 1 for yes and 0 for no. With 1 `trusted_host_keys` isn't read.
+    pub asks: u32,
     /// Of a client that asks: the answer to each question so far, in order, one byte each, 1 for yes and 0 for no. Else not
     /// read.
     pub answers: &'a [u8],
@@ -94,12 +106,11 @@ pub struct HostKeyInput<'a> {
 #[repr(C)]
 #[derive(Clone, Copy)]
 pub struct UserInput<'a> {
-    /// The user's name.
+    /// The user's name, which isn't empty.
     pub user: &'a [u8],
-    /// The password, or the public key as a request has it.
+    /// The password, or the public key as a request has it, which isn't empty; of [`METHOD_NONE`] no bytes.
     pub proof: &'a [u8],
     /// What it is: [`METHOD_NONE`] (the user is accepted without a proof), [`METHOD_PASSWORD`] or [`METHOD_PUBLICKEY`].
-    /// An entry of another number accepts nobody.
     pub method: u32,
 }
 
@@ -125,8 +136,8 @@ pub struct ServerInput<'a> {
     pub users: &'a [UserInput<'a>],
     /// The number of the request at which a failure ends the session, 1 to 20.
     pub tries: u32,
-    /// Whether the program is asked who is accepted. Then `users` isn't read.
-    pub asks: bool,
+    /// Whether the program is asked who is accepted, 1 for yes and 0 for no. With 1 `users` isn't read.
+    pub asks: u32,
     /// Of a server that asks: the answer to each question so far, in order, one byte each, 1 for yes and 0 for no. Else not
     /// read.
     pub answers: &'a [u8],

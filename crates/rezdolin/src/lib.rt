@@ -16,30 +16,35 @@ mod directions;
 mod inputs;
 mod parts;
 mod question;
+mod readable;
 mod record;
 mod talk;
 mod texts;
 mod trust;
 
-ghost use Rattle.std.specs.Prelude.{◌≡◌, ◌≢◌, ◌≤◌, [], false, true};
+ghost use Rattle.std.specs.Prelude.{◌≡◌, ◌≢◌, ◌⊎◌, ◌≤◌, []};
 ghost use Rattle.sshcore.specs.EndpointParts.{client_setup, server_setup};
+ghost use Rattle.sshcore.specs.SuiteFit.{client_asked, server_asked};
 ghost use Rattle.sshsuite.specs.Deployed.{deployed};
-ghost use Rattle.rezdolin.specs.declared.answers.TheConstants.{STATUS_CONFIG, STATUS_UNREADABLE};
-ghost use Rattle.rezdolin.specs.Asks.{AreUnfit, AsksAnswers};
+ghost use Rattle.rezdolin.specs.declared.answers.TheConstants.{STATUS_CONFIG, STATUS_ROOM};
+ghost use Rattle.rezdolin.specs.Asks.{AreUnfit, AsksAnswers, AsksLackRoom, AsksSkipUnsent};
 ghost use Rattle.rezdolin.specs.Directions.{IsOpened, IsSealed};
 ghost use Rattle.rezdolin.specs.Inputs.{AreClientTexts, AreServerTexts, client_of, server_of};
-ghost use Rattle.rezdolin.specs.Refusals.{IsRefusedClient, IsRefusedServer};
-ghost use Rattle.rezdolin.specs.Talks.{Answers, IsBlob};
+ghost use Rattle.rezdolin.specs.Readable.{IsClientRead, IsServerRead};
+ghost use Rattle.rezdolin.specs.Refusals.{IsDeployed, IsRefusedClient, IsRefusedServer};
+ghost use Rattle.rezdolin.specs.Talks.{Answers, IsBlob, LacksRoom, SkipsUnsent, emptied};
 ghost use Rattle.rezdolin.specs.Trust.{trust_policy};
 
 use crate::answers::{
-    BytesAnswer, BytesFault, EndpointAnswer, STATUS_ANSWERED, no_bytes, no_config,
+    BytesAnswer, BytesFault, EndpointAnswer, STATUS_ANSWERED, STATUS_UNREADABLE, no_bytes,
+    no_config, unanswered,
 };
 use crate::asking::{asking_client, asking_server};
-use crate::copying::is_copied;
+use crate::copying::{empty, is_copied};
 use crate::directions::{open, seal};
 use crate::inputs::{ClientInput, ServerInput};
 use crate::parts::{client_config, server_config};
+use crate::readable::{is_client_read, is_server_read};
 use crate::talk::{client_answer, server_answer};
 use crate::trust::Trust;
 use sshpacket::Suite;
@@ -48,8 +53,9 @@ use std::alloc::Global;
 
 /// What a client sends for these bytes, from the byte `skip` of all that it sends; `received` may be empty.
 ///
-/// `session` gets the record of the session of an authenticated client, where it has room for the whole; and `question` that
-/// of the question of a client that asks, which goes on where the next call has the answer among its data.
+/// `session` gets the record of the session of an authenticated client; and `question` that of the question of a client that asks,
+/// which goes on where the next call has the answer among its data. Each call first empties the first field of both, so neither keeps
+/// what an earlier call put there.
 #[tactic(auto, using(crate::proofs::AnswerLemmas::refused_by, crate::proofs::AnswerLemmas::unreadable_by))]
 #[unsafe(no_mangle)]
 pub extern "C" fn rezdolin_client(
@@ -61,23 +67,34 @@ pub extern "C" fn rezdolin_client(
     session: &mut [u8],
     question: &mut [u8],
 ) -> EndpointAnswer
-    ensures answers { result.status ≡ STATUS_ANSWERED → client.now.asks ≡ false
-        → Answers (client_setup deployed (trust_policy client.now.trusted_host_keys.now []) (client_of client.now)) received.now skip out.old session.old result out.new session.new }
-    ensures unasked { client.now.asks ≡ false → (result.question_len ≡ 0) × (question.new ≡ question.old) }
-    ensures asks { result.status ≡ STATUS_ANSWERED → client.now.asks ≡ true
-        → AsksAnswers (λ d. client_setup deployed d (client_of client.now)) client.now.answers.now received.now skip out.old session.old question.old result out.new session.new question.new }
+    ensures readable { result.status ≢ STATUS_UNREADABLE → IsClientRead client.now }
+    ensures deployed { result.status ≡ STATUS_ANSWERED → IsDeployed (client_asked (client_of client.now)) }
+    ensures answers { result.status ≡ STATUS_ANSWERED → client.now.asks ≢ 1
+        → Answers (client_setup deployed (trust_policy client.now.trusted_host_keys.now []) (client_of client.now)) received.now skip out.old (emptied session.old) result out.new session.new }
+    ensures unasked { client.now.asks ≢ 1 → (result.question_len ≡ 0) × (question.new ≡ emptied question.old) }
+    ensures asks { result.status ≡ STATUS_ANSWERED → client.now.asks ≡ 1
+        → AsksAnswers (λ d. client_setup deployed d (client_of client.now)) client.now.answers.now received.now skip out.old (emptied session.old) (emptied question.old) result out.new session.new question.new }
+    ensures room { result.status ≡ STATUS_ROOM → client.now.asks ≢ 1 → LacksRoom (client_setup deployed (trust_policy client.now.trusted_host_keys.now []) (client_of client.now)) received.now (emptied session.old) result }
+    ensures rooms { result.status ≡ STATUS_ROOM → client.now.asks ≡ 1 → AsksLackRoom (λ d. client_setup deployed d (client_of client.now)) client.now.answers.now received.now (emptied session.old) (emptied question.old) result }
     ensures refused { result.status ≡ STATUS_CONFIG → IsRefusedClient (client_of client.now) result.config }
     ensures unrefused { result.status ≢ STATUS_CONFIG → result.config ≡ 0 }
-    ensures unreadable { result.status ≡ STATUS_UNREADABLE → AreClientTexts client.now
-        → (client.now.asks ≡ true) × AreUnfit (λ d. client_setup deployed d (client_of client.now)) client.now.answers.now received.now }
-    ensures statuses { result.status ≤ STATUS_UNREADABLE }
-    ensures kept { result.status ≢ STATUS_ANSWERED → (out.new ≡ out.old) × (session.new ≡ session.old) × (question.new ≡ question.old) }
+    ensures unreadable { result.status ≡ STATUS_UNREADABLE → IsClientRead client.now → AreClientTexts client.now → client.now.asks ≢ 1
+        → SkipsUnsent (client_setup deployed (trust_policy client.now.trusted_host_keys.now []) (client_of client.now)) received.now skip }
+    ensures unfit { result.status ≡ STATUS_UNREADABLE → IsClientRead client.now → AreClientTexts client.now → client.now.asks ≡ 1
+        → AreUnfit (λ d. client_setup deployed d (client_of client.now)) client.now.answers.now received.now ⊎ AsksSkipUnsent (λ d. client_setup deployed d (client_of client.now)) client.now.answers.now received.now skip }
+    ensures statuses { result.status ≤ STATUS_ROOM }
+    ensures kept { result.status ≢ STATUS_ANSWERED → (out.new ≡ out.old) × (session.new ≡ emptied session.old) × (question.new ≡ emptied question.old) }
 {
+    empty(session);
+    empty(question);
+    if !is_client_read(client) {
+        return unanswered(STATUS_UNREADABLE, 0);
+    }
     let config = match client_config(alloc, client) {
         Ok(config) => config,
         Err(fault) => return no_config(fault),
     };
-    if client.asks {
+    if client.asks == 1 {
         let answers = client.answers;
         let answer = asking_client(
             alloc, &config, answers, received, skip, out, session, question,
@@ -96,8 +113,9 @@ pub extern "C" fn rezdolin_client(
 
 /// What a server sends for these bytes, from the byte `skip` of all that it sends; `received` may be empty.
 ///
-/// `session` gets the record of the session of an authenticated server, where it has room for the whole; and `question` that
-/// of the question of a server that asks, which goes on where the next call has the answer among its data.
+/// `session` gets the record of the session of an authenticated server; and `question` that of the question of a server that asks,
+/// which goes on where the next call has the answer among its data. Each call first empties the first field of both, so neither keeps
+/// what an earlier call put there.
 #[tactic(auto, using(crate::proofs::AnswerLemmas::refused_by, crate::proofs::AnswerLemmas::unreadable_by))]
 #[unsafe(no_mangle)]
 pub extern "C" fn rezdolin_server(
@@ -109,23 +127,34 @@ pub extern "C" fn rezdolin_server(
     session: &mut [u8],
     question: &mut [u8],
 ) -> EndpointAnswer
-    ensures answers { result.status ≡ STATUS_ANSWERED → server.now.asks ≡ false
-        → Answers (server_setup deployed (trust_policy [] server.now.users.now) (server_of server.now)) received.now skip out.old session.old result out.new session.new }
-    ensures unasked { server.now.asks ≡ false → (result.question_len ≡ 0) × (question.new ≡ question.old) }
-    ensures asks { result.status ≡ STATUS_ANSWERED → server.now.asks ≡ true
-        → AsksAnswers (λ d. server_setup deployed d (server_of server.now)) server.now.answers.now received.now skip out.old session.old question.old result out.new session.new question.new }
+    ensures readable { result.status ≢ STATUS_UNREADABLE → IsServerRead server.now }
+    ensures deployed { result.status ≡ STATUS_ANSWERED → IsDeployed (server_asked (server_of server.now)) }
+    ensures answers { result.status ≡ STATUS_ANSWERED → server.now.asks ≢ 1
+        → Answers (server_setup deployed (trust_policy [] server.now.users.now) (server_of server.now)) received.now skip out.old (emptied session.old) result out.new session.new }
+    ensures unasked { server.now.asks ≢ 1 → (result.question_len ≡ 0) × (question.new ≡ emptied question.old) }
+    ensures asks { result.status ≡ STATUS_ANSWERED → server.now.asks ≡ 1
+        → AsksAnswers (λ d. server_setup deployed d (server_of server.now)) server.now.answers.now received.now skip out.old (emptied session.old) (emptied question.old) result out.new session.new question.new }
+    ensures room { result.status ≡ STATUS_ROOM → server.now.asks ≢ 1 → LacksRoom (server_setup deployed (trust_policy [] server.now.users.now) (server_of server.now)) received.now (emptied session.old) result }
+    ensures rooms { result.status ≡ STATUS_ROOM → server.now.asks ≡ 1 → AsksLackRoom (λ d. server_setup deployed d (server_of server.now)) server.now.answers.now received.now (emptied session.old) (emptied question.old) result }
     ensures refused { result.status ≡ STATUS_CONFIG → IsRefusedServer (server_of server.now) result.config }
     ensures unrefused { result.status ≢ STATUS_CONFIG → result.config ≡ 0 }
-    ensures unreadable { result.status ≡ STATUS_UNREADABLE → AreServerTexts server.now
-        → (server.now.asks ≡ true) × AreUnfit (λ d. server_setup deployed d (server_of server.now)) server.now.answers.now received.now }
-    ensures statuses { result.status ≤ STATUS_UNREADABLE }
-    ensures kept { result.status ≢ STATUS_ANSWERED → (out.new ≡ out.old) × (session.new ≡ session.old) × (question.new ≡ question.old) }
+    ensures unreadable { result.status ≡ STATUS_UNREADABLE → IsServerRead server.now → AreServerTexts server.now → server.now.asks ≢ 1
+        → SkipsUnsent (server_setup deployed (trust_policy [] server.now.users.now) (server_of server.now)) received.now skip }
+    ensures unfit { result.status ≡ STATUS_UNREADABLE → IsServerRead server.now → AreServerTexts server.now → server.now.asks ≡ 1
+        → AreUnfit (λ d. server_setup deployed d (server_of server.now)) server.now.answers.now received.now ⊎ AsksSkipUnsent (λ d. server_setup deployed d (server_of server.now)) server.now.answers.now received.now skip }
+    ensures statuses { result.status ≤ STATUS_ROOM }
+    ensures kept { result.status ≢ STATUS_ANSWERED → (out.new ≡ out.old) × (session.new ≡ emptied session.old) × (question.new ≡ emptied question.old) }
 {
+    empty(session);
+    empty(question);
+    if !is_server_read(server) {
+        return unanswered(STATUS_UNREADABLE, 0);
+    }
     let config = match server_config(alloc, server) {
         Ok(config) => config,
         Err(fault) => return no_config(fault),
     };
-    if server.asks {
+    if server.asks == 1 {
         let answers = server.answers;
         let answer = asking_server(
             alloc, &config, answers, received, skip, out, session, question,

@@ -1,23 +1,26 @@
 //! Configs of what a program has put in.
 
-ghost use Rattle.std.specs.Prelude.{◌≡◌, ◌≢◌, IfErr, IfOk, map, string_bytes};
+ghost use Rattle.std.specs.Prelude.{◌≡◌, ◌≢◌, ℕ, IfErr, IfOk, map, string_bytes};
 ghost use Rattle.std.specs.List.{AllByRecursion};
 ghost use Rattle.std.specs.Str.{IsUtf8};
 ghost use Rattle.sshcore.specs.ConfigRules.{IsClient, IsServer};
 ghost use Rattle.sshcore.specs.ConfigView.{attempt_data, client_data, credential_data, host_key_data, server_data, side_data};
+ghost use Rattle.sshcore.specs.SuiteFit.{client_asked, server_asked, suite_fault_data};
+ghost use Rattle.rezdolin.specs.declared.parts.NoConfig.TheVariants as no;
 ghost use Rattle.rezdolin.specs.declared.texts.InputFault.TheVariants as fault;
-ghost use Rattle.rezdolin.specs.Inputs.{AreAttemptTexts, AreClientTexts, AreServerTexts, AreSideTexts, attempt_by, client_of, host_key_by, proving_by, server_of, side_of};
-ghost use Rattle.rezdolin.specs.Refusals.{RefusesClient, RefusesServer};
+ghost use Rattle.rezdolin.specs.Inputs.{AreAttemptTexts, AreClientTexts, AreServerTexts, AreSideTexts, attempt_by, client_of, host_key_by, proving_by, server_of, side_of, user_algorithms};
+ghost use Rattle.rezdolin.specs.Refusals.{IsDeployed, IsUnfit, RefusesClient, RefusesServer, unfit_number};
 
 use crate::inputs::{
-    AttemptInput, ClientInput, HostKeyInput, METHOD_NONE, METHOD_PASSWORD, METHOD_PUBLICKEY,
-    ServerInput, SideInput,
+    AttemptInput, ClientInput, HostKeyInput, IGNORED_LIMIT, METHOD_NONE, METHOD_PASSWORD,
+    METHOD_PUBLICKEY, STRICT_YES, ServerInput, SideInput,
 };
 use crate::texts::{InputFault, bytes_in, copies_of, names_of, text_in, text_of};
 use sshcore::{
     Attempt, ClientConfig, ClientParts, ConfigFault, Credential, HostKey, ServerConfig,
-    ServerParts, SideParts,
+    ServerParts, SideParts, SuiteFault,
 };
+use sshsuite::DeployedSuite;
 use sshwire::Memory;
 use std::alloc::Global;
 
@@ -28,39 +31,79 @@ pub(crate) enum NoConfig {
     Input(InputFault),
     /// The parts are refused.
     Parts(ConfigFault),
+    /// The suite lacks something: 13 for an algorithm, 14 for a private key.
+    Unfit(u32),
 }
 
-/// A client's config.
+/// A client's config, for which the suite has all.
 pub(crate) fn client_config(
     alloc: Global,
     client: &ClientInput<'_>,
 ) -> Result<ClientConfig, NoConfig>
-    ensures config { IfOk result (λ config. (config ≡ client_of client.now) × IsClient config) }
+    ensures config { IfOk result (λ config. (config ≡ client_of client.now) × IsClient config × IsDeployed (client_asked config)) }
     ensures refused { IfErr result (λ f. RefusesClient client.now f) }
 {
     match client_parts(alloc, client) {
         Ok(parts) => match ClientConfig::new(alloc, parts) {
-            Ok(config) => Ok(config),
+            Ok(config) => deployed_client(config),
             Err(fault) => Err(NoConfig::Parts(fault)),
         },
         Err(fault) => Err(NoConfig::Input(fault)),
     }
 }
 
-/// A server's config.
+/// A server's config, for which the suite has all.
 pub(crate) fn server_config(
     alloc: Global,
     server: &ServerInput<'_>,
 ) -> Result<ServerConfig, NoConfig>
-    ensures config { IfOk result (λ config. (config ≡ server_of server.now) × IsServer config) }
+    ensures config { IfOk result (λ config. (config ≡ server_of server.now) × IsServer config × IsDeployed (server_asked config)) }
     ensures refused { IfErr result (λ f. RefusesServer server.now f) }
 {
     match server_parts(alloc, server) {
         Ok(parts) => match ServerConfig::new(alloc, parts) {
-            Ok(config) => Ok(config),
+            Ok(config) => deployed_server(config),
             Err(fault) => Err(NoConfig::Parts(fault)),
         },
         Err(fault) => Err(NoConfig::Input(fault)),
+    }
+}
+
+/// The same config, where the suite has all for it.
+#[tactic(auto, using(crate::proofs::AnswerLemmas::unfit_by))]
+fn deployed_client(config: ClientConfig) -> Result<ClientConfig, NoConfig>
+    ensures config { IfOk result (λ same. (same ≡ config) × IsDeployed (client_asked config)) }
+    ensures unfit { IfErr result (λ f. (n : ℕ) × (f ≡ no.Unfit n) × IsUnfit (client_asked config) n) }
+{
+    let number = match config.judge(&DeployedSuite) {
+        Ok(()) => return Ok(config),
+        Err(fault) => unfit_number(&fault),
+    };
+    drop(config);
+    Err(NoConfig::Unfit(number))
+}
+
+/// The same config, where the suite has all for it.
+#[tactic(auto, using(crate::proofs::AnswerLemmas::unfit_by))]
+fn deployed_server(config: ServerConfig) -> Result<ServerConfig, NoConfig>
+    ensures config { IfOk result (λ same. (same ≡ config) × IsDeployed (server_asked config)) }
+    ensures unfit { IfErr result (λ f. (n : ℕ) × (f ≡ no.Unfit n) × IsUnfit (server_asked config) n) }
+{
+    let number = match config.judge(&DeployedSuite) {
+        Ok(()) => return Ok(config),
+        Err(fault) => unfit_number(&fault),
+    };
+    drop(config);
+    Err(NoConfig::Unfit(number))
+}
+
+/// The number of what the suite lacks.
+fn unfit_number(fault: &SuiteFault<'_>) -> u32
+    ensures { result ≡ unfit_number (suite_fault_data fault.now) }
+{
+    match fault {
+        SuiteFault::Algorithm { .. } => 13,
+        SuiteFault::PrivateKey { .. } => 14,
     }
 }
 
@@ -75,7 +118,7 @@ fn client_parts(alloc: Global, client: &ClientInput<'_>) -> Result<ClientParts, 
     Ok(ClientParts {
         side,
         server_host_key_algorithms,
-        guess: client.guess,
+        guess: client.guess == 1,
         plan,
     })
 }
@@ -120,7 +163,7 @@ fn credential_of(alloc: Global, attempt: &AttemptInput<'_>) -> Result<Credential
             Ok(Credential::PublicKey {
                 algorithm,
                 private_key: Vec::from_slice(alloc, attempt.secret)?,
-                ask: attempt.ask,
+                ask: attempt.ask == 1,
             })
         }
         _ => Err(InputFault::Unreadable),
@@ -137,6 +180,7 @@ fn server_parts(alloc: Global, server: &ServerInput<'_>) -> Result<ServerParts, 
     let services = names_of(alloc, server.services)?;
     let methods = names_of(alloc, server.methods)?;
     let required = names_of(alloc, server.required)?;
+    let signature_algorithms = user_algorithms(alloc)?;
     let banner = bytes_in(alloc, server.banner)?;
     let notice_lines = copies_of(alloc, server.notice_lines)?;
     Ok(ServerParts {
@@ -145,10 +189,22 @@ fn server_parts(alloc: Global, server: &ServerInput<'_>) -> Result<ServerParts, 
         services,
         methods,
         required,
+        signature_algorithms,
         tries: server.tries,
         banner,
         notice_lines,
     })
+}
+
+/// The algorithms of users' keys that a server tells.
+fn user_algorithms(alloc: Global) -> Result<Vec<String>, Memory>
+    ensures { IfOk result (λ names. map string_bytes names.items ≡ user_algorithms) }
+{
+    let mut names = Vec::new(alloc);
+    names.push(String::from_str(alloc, "ssh-ed25519")?)?;
+    names.push(String::from_str(alloc, "rsa-sha2-512")?)?;
+    names.push(String::from_str(alloc, "rsa-sha2-256")?)?;
+    Ok(names)
 }
 
 /// A server's host keys.
@@ -196,10 +252,11 @@ fn side_parts(alloc: Global, side: &SideInput<'_>) -> Result<SideParts, InputFau
         encryption_server_to_client,
         mac_client_to_server,
         mac_server_to_client,
-        strict: side.strict,
+        strict: side.strict == STRICT_YES,
         cookie: draws.cookie,
         exchange_random: draws.exchange_random,
         padding_seed: draws.padding_seed,
+        ignored_limit: Some(IGNORED_LIMIT),
     })
 }
 

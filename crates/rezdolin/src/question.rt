@@ -4,7 +4,8 @@ ghost use Rattle.std.specs.Prelude.{◌≡◌, ◌++◌, IfOk, OnOk};
 ghost use Rattle.sshcore.specs.EndpointPartsView.{proof_data};
 ghost use Rattle.sshcore.specs.Questions.{HostKeyQuestion, UserQuestion};
 ghost use Rattle.sshcore.specs.QuestionsView.{question_data};
-ghost use Rattle.rezdolin.specs.Asks.{proof_fields, question_bytes};
+ghost use Rattle.sshwire.specs.Types.{uint32};
+ghost use Rattle.rezdolin.specs.Asks.{method_of, proof_fields, question_bytes};
 ghost use Rattle.rezdolin.specs.Records.{strings};
 
 use crate::answers::{ASKS_HOST_KEY, ASKS_USER};
@@ -56,22 +57,40 @@ fn user_record(
     let kind = [ASKS_USER as u8];
     let fields: [&[u8]; 4] = [&kind, &digits, user.as_bytes(), service.as_bytes()];
     put_fields(&fields, &mut out)?;
-    put_proof(proof, &mut out)?;
+    put_proof(alloc, proof, &mut out)?;
     Ok(out)
 }
 
 /// Appends the fields of what a request proves.
-fn put_proof(proof: &Proof<'_>, out: &mut Vec<u8>) -> Result<(), Memory>
+fn put_proof(alloc: Global, proof: &Proof<'_>, out: &mut Vec<u8>) -> Result<(), Memory>
     ensures { OnOk result (out.new.items ≡ out.old.items ++ strings (proof_fields (proof_data proof.now))) }
 {
+    let method = method_bytes(alloc, method_of(proof))?;
     match proof {
-        Proof::None => put_fields(&[&[METHOD_NONE as u8], &[], &[], &[]], out),
-        Proof::Password(password) => {
-            put_fields(&[&[METHOD_PASSWORD as u8], &[], &[], password], out)
+        Proof::None => put_fields(&[&method, &[], &[], &[]], out),
+        Proof::Password(password) => put_fields(&[&method, &[], &[], password], out),
+        Proof::Key { algorithm, blob } => {
+            put_fields(&[&method, algorithm.as_bytes(), blob, &[]], out)
         }
-        Proof::Key { algorithm, blob } => put_fields(
-            &[&[METHOD_PUBLICKEY as u8], algorithm.as_bytes(), blob, &[]],
-            out,
-        ),
     }
+}
+
+/// The number of a request's method.
+fn method_of(proof: &Proof<'_>) -> u32
+    ensures { result ≡ method_of (proof_data proof.now) }
+{
+    match proof {
+        Proof::None => METHOD_NONE,
+        Proof::Password(_) => METHOD_PASSWORD,
+        Proof::Key { .. } => METHOD_PUBLICKEY,
+    }
+}
+
+/// The number of a method in four bytes, the highest first (RFC 4251 section 5).
+fn method_bytes(alloc: Global, number: u32) -> Result<Vec<u8>, Memory>
+    ensures { IfOk result (λ v. v.items ≡ uint32 number) }
+{
+    let mut method = Vec::new(alloc);
+    put_u32(&mut method, number)?;
+    Ok(method)
 }

@@ -1,16 +1,19 @@
 //! One endpoint that lives for one call.
 
-ghost use Rattle.std.specs.Prelude.{◌≡◌, ◌≢◌, ◌≤◌, [], IfOk, length};
+ghost use Rattle.std.specs.Prelude.{◌≡◌, ◌≢◌, ◌≤◌, ◌<◌, [], IfOk, length};
 ghost use Rattle.sshcore.specs.EndData.{Open, end_data};
 ghost use Rattle.sshcore.specs.Inputs.{EndpointStands};
 ghost use Rattle.sshcore.specs.StateData.{state_data};
 ghost use Rattle.sshcore.specs.EndpointParts.{client_setup, server_setup, setup_with};
 ghost use Rattle.sshsuite.specs.Deployed.{deployed};
-ghost use Rattle.rezdolin.specs.Talks.{Answers, IsRecorded, IsTalk, IsWrittenFrom, numbers_in};
+ghost use Rattle.rezdolin.specs.declared.answers.TheConstants.{STATUS_CONFIG, STATUS_ROOM};
+ghost use Rattle.rezdolin.specs.Answers.{no_room};
+ghost use Rattle.rezdolin.specs.Talks.{Answers, IsRecorded, IsTalk, IsWrittenFrom, LacksRoom, SkipsUnsent, numbers_in};
 ghost use Rattle.rezdolin.specs.Trust.{trust_policy};
 
 use crate::answers::{
-    EndNumbers, EndpointAnswer, STATUS_ANSWERED, STATUS_MEMORY, end_numbers, unanswered,
+    EndNumbers, EndpointAnswer, STATUS_ANSWERED, STATUS_MEMORY, STATUS_UNREADABLE, end_numbers,
+    no_room, unanswered,
 };
 use crate::copying::{copied_from, is_copied};
 use crate::record::record_of;
@@ -87,7 +90,7 @@ impl Talk {
 }
 
 /// What a client of this config that has received these bytes answers.
-#[tactic(auto, using(crate::proofs::AnswerLemmas::answered))]
+#[tactic(auto, using(crate::proofs::AnswerLemmas::answered, crate::proofs::AnswerLemmas::lacks_room, crate::proofs::AnswerLemmas::skips_unsent))]
 pub(crate) fn client_answer(
     alloc: Global,
     config: &ClientConfig,
@@ -98,8 +101,10 @@ pub(crate) fn client_answer(
     session: &mut [u8],
 ) -> EndpointAnswer
     ensures answers { result.status ≡ STATUS_ANSWERED → Answers (client_setup deployed (trust_policy trust.now.host_keys.now trust.now.users.now) config.now) received.now skip out.old session.old result out.new session.new }
-    ensures statuses { result.status ≤ STATUS_MEMORY }
-    ensures config { result.config ≡ 0 }
+    ensures room { result.status ≡ STATUS_ROOM → LacksRoom (client_setup deployed (trust_policy trust.now.host_keys.now trust.now.users.now) config.now) received.now session.old result }
+    ensures unsent { result.status ≡ STATUS_UNREADABLE → SkipsUnsent (client_setup deployed (trust_policy trust.now.host_keys.now trust.now.users.now) config.now) received.now skip }
+    ensures statuses { result.status ≤ STATUS_ROOM }
+    ensures config { (result.status ≢ STATUS_CONFIG) × (result.config ≡ 0) }
     ensures unasked { result.question_len ≡ 0 }
     ensures kept { result.status ≢ STATUS_ANSWERED → (out.new ≡ out.old) × (session.new ≡ session.old) }
 {
@@ -110,7 +115,7 @@ pub(crate) fn client_answer(
 }
 
 /// What a server of this config that has received these bytes answers.
-#[tactic(auto, using(crate::proofs::AnswerLemmas::answered))]
+#[tactic(auto, using(crate::proofs::AnswerLemmas::answered, crate::proofs::AnswerLemmas::lacks_room, crate::proofs::AnswerLemmas::skips_unsent))]
 pub(crate) fn server_answer(
     alloc: Global,
     config: &ServerConfig,
@@ -121,8 +126,10 @@ pub(crate) fn server_answer(
     session: &mut [u8],
 ) -> EndpointAnswer
     ensures answers { result.status ≡ STATUS_ANSWERED → Answers (server_setup deployed (trust_policy trust.now.host_keys.now trust.now.users.now) config.now) received.now skip out.old session.old result out.new session.new }
-    ensures statuses { result.status ≤ STATUS_MEMORY }
-    ensures config { result.config ≡ 0 }
+    ensures room { result.status ≡ STATUS_ROOM → LacksRoom (server_setup deployed (trust_policy trust.now.host_keys.now trust.now.users.now) config.now) received.now session.old result }
+    ensures unsent { result.status ≡ STATUS_UNREADABLE → SkipsUnsent (server_setup deployed (trust_policy trust.now.host_keys.now trust.now.users.now) config.now) received.now skip }
+    ensures statuses { result.status ≤ STATUS_ROOM }
+    ensures config { (result.status ≢ STATUS_CONFIG) × (result.config ≡ 0) }
     ensures unasked { result.question_len ≡ 0 }
     ensures kept { result.status ≢ STATUS_ANSWERED → (out.new ≡ out.old) × (session.new ≡ session.old) }
 {
@@ -132,17 +139,26 @@ pub(crate) fn server_answer(
     }
 }
 
-/// The answer of a talk: what is sent from `skip` on, and the record where there is room for all of it.
+/// The answer of a talk: what is sent from `skip` on, and the record; or that it has no room, or that less than that is sent.
 fn tell(talk: &Talk, skip: usize, out: &mut [u8], session: &mut [u8]) -> EndpointAnswer
-    ensures numbers { (result.status ≡ STATUS_ANSWERED) × (numbers_in result ≡ talk.now.end) × (result.used ≡ talk.now.used)
-        × (result.sent ≡ length talk.now.sent.items) × (result.session_len ≡ length talk.now.spelled.items) }
-    ensures written { IsWrittenFrom talk.now.sent.items skip out.old result.written out.new }
-    ensures recorded { IsRecorded talk.now.spelled.items session.old session.new }
-    ensures config { result.config ≡ 0 }
+    ensures numbers { result.status ≡ STATUS_ANSWERED → (numbers_in result ≡ talk.now.end) × (result.used ≡ talk.now.used)
+        × (result.sent ≡ length talk.now.sent.items) × (skip ≤ length talk.now.sent.items) × (result.session_len ≡ length talk.now.spelled.items) }
+    ensures written { result.status ≡ STATUS_ANSWERED → IsWrittenFrom talk.now.sent.items skip out.old result.written out.new }
+    ensures recorded { result.status ≡ STATUS_ANSWERED → IsRecorded talk.now.spelled.items session.old session.new }
+    ensures room { result.status ≡ STATUS_ROOM → (length session.old < length talk.now.spelled.items) × (result ≡ no_room (length talk.now.spelled.items) 0) }
+    ensures unsent { result.status ≡ STATUS_UNREADABLE → length talk.now.sent.items < skip }
+    ensures statuses { (result.status ≢ STATUS_MEMORY) × (result.status ≤ STATUS_ROOM) }
+    ensures config { (result.status ≢ STATUS_CONFIG) × (result.config ≡ 0) }
     ensures unasked { result.question_len ≡ 0 }
+    ensures kept { result.status ≢ STATUS_ANSWERED → (out.new ≡ out.old) × (session.new ≡ session.old) }
 {
+    if talk.sent.len() < skip {
+        return unanswered(STATUS_UNREADABLE, 0);
+    }
+    if !is_copied(&talk.spelled, session) {
+        return no_room(talk.spelled.len(), 0);
+    }
     let written = copied_from(&talk.sent, skip, out);
-    is_copied(&talk.spelled, session);
     EndpointAnswer {
         status: STATUS_ANSWERED,
         config: 0,

@@ -6,6 +6,7 @@ ghost use Rattle.rezdolin.specs.Trust.{is_trusted, accepts, proves, trust_policy
 
 use crate::inputs::{METHOD_NONE, METHOD_PASSWORD, METHOD_PUBLICKEY, UserInput};
 use sshcore::{Decisions, Proof};
+use sshsuite::is_same_secret;
 
 /// The host keys that are trusted, and who is accepted by what.
 ///
@@ -46,13 +47,15 @@ fn accepts(users: &[UserInput<'_>], user: &[u8], proof: &Proof<'_>) -> bool
         .any(|entry| entry.user == user && proves(entry, proof))
 }
 
-/// Whether the proof is the one of an entry.
+/// Whether the proof is the one of an entry. Passwords are compared in a time that doesn't tell where they differ.
 fn proves(entry: &UserInput<'_>, proof: &Proof<'_>) -> bool
     ensures { result ≡ proves entry.now (proof_data proof.now) }
 {
     match proof {
         Proof::None => entry.method == METHOD_NONE,
-        Proof::Password(password) => entry.method == METHOD_PASSWORD && entry.proof == *password,
+        Proof::Password(password) => {
+            entry.method == METHOD_PASSWORD && is_same_secret(entry.proof, password)
+        }
         Proof::Key { blob, .. } => entry.method == METHOD_PUBLICKEY && entry.proof == *blob,
     }
 }

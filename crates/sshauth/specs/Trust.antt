@@ -1,6 +1,7 @@
 -- Whom an endpoint of this program trusts.
 
-use Rattle.std.specs.Prelude.{ℕ, ◌&&◌, ◌==◌, Bool, false, true, List, Option, None, Some, length, not, option_map, string_bytes, Vec}
+use Rattle.std.specs.Prelude.{ℕ, ◌&&◌, Bool, false, true, List, Option, None, Some, not, option_map, string_bytes, Vec}
+use Rattle.std.specs.Option.{is_none}
 use Rattle.std.specs.List.{list_any}
 use Rattle.std.specs.Str.{bytes_eq}
 use Rattle.sshcore.specs.EndpointParts.{DecisionsData, KeyProof, NoProof, PasswordProof, ProofData}
@@ -10,12 +11,13 @@ use Rattle.sshauth.specs.declared.trust.Trust.{Trust}
 abbrev pub has_key : {Z : Type 0} → List (Vec ℕ Z) → List ℕ → Bool
 has_key keys blob = list_any (λ key. bytes_eq key.items blob) keys
 
+-- the blob is one of the keys that are trusted, and none of those that are revoked
 abbrev pub is_trusted : Trust → List ℕ → Bool
-is_trusted trust blob = has_key trust.keys.items blob
+is_trusted trust blob = has_key trust.keys.items blob && not (has_key trust.revoked.items blob)
 
--- whether a person may be asked about a host key: no key of the host is known, and this one isn't revoked
+-- whether a person may be asked about a host key: no line is the host's, and this key isn't revoked
 abbrev pub leaves_open : Trust → List ℕ → Bool
-leaves_open trust blob = length trust.keys.items == 0 && not (has_key trust.revoked.items blob)
+leaves_open trust blob = is_none trust.known && not (has_key trust.revoked.items blob)
 
 -- there is a password, and it is this one
 abbrev pub is_own : Option (List ℕ) → List ℕ → Bool
@@ -28,7 +30,7 @@ proves trust NoProof = false
 proves trust (PasswordProof password) = is_own (option_map (λ v. v.items) trust.password) password
 proves trust (KeyProof algorithm blob) = is_trusted trust blob
 
--- a host key is trusted that is one of the keys; one user is accepted, by the password or by one of the keys
+-- a host key is trusted that is one of the keys, and isn't revoked; one user is accepted, by the password or by one of the keys
 abbrev pub trust_policy : Trust → DecisionsData
 trust_policy trust = record {
   host_key = λ algorithm blob. is_trusted trust blob;

@@ -1,16 +1,16 @@
 //! What the endpoints of a client and of a server are answered where they ask.
 
+use crate::authorized::tell_line;
 use crate::fault::Fault;
 use crate::parts::server_trust;
 use crate::report;
 use crate::settings::Settings;
 use crate::terminal::is_confirmed;
-use crate::trust::Trust;
+use crate::trust::{Trust, has_key};
 use base64::engine::general_purpose::STANDARD_NO_PAD;
 use sha2::{Digest, Sha256};
 use sshcore::Question;
 use std::alloc::Global;
-use std::fmt::Write;
 
 /// Who answers: the program's files, and a person.
 #[derive(Clone, Copy)]
@@ -21,14 +21,20 @@ pub(crate) struct Answers<'a> {
 }
 
 impl Answers<'_> {
-    /// The answer to a question. Of a host key: by the file of host keys, and where that has no key of the host and doesn't
-    /// revoke this one, by a person. Of a request: by the server's files as they stand now; where one of them is refused, no.
+    /// The answer to a question. Of a host key: by the file of host keys, and where that has no line of the host and doesn't
+    /// revoke this key, by a person. Of a request: by the server's files as they stand now; where one of them is refused, no.
     pub(crate) fn answer(&self, rt: &HostRuntime, question: &Question<'_>) -> Result<bool, Fault> {
         match question {
             Question::HostKey { blob, .. } if self.trust.leaves_open(blob) => {
                 trusts(rt, self.settings, blob)
             }
-            Question::HostKey { .. } => Ok(self.trust.decides(question)),
+            Question::HostKey { blob, .. } => {
+                let trusted = self.trust.decides(question);
+                if !trusted {
+                    self.tell_why(rt, blob)?;
+                }
+                Ok(trusted)
+            }
             Question::User { .. } => match server_trust(rt, self.settings) {
                 Ok(trust) => Ok(trust.decides(question)),
                 Err(Fault::Memory) => Err(Fault::Memory),
@@ -41,17 +47,44 @@ impl Answers<'_> {
     }
 }
 
-/// Whether the person at the terminal trusts this host key.
+impl Answers<'_> {
+    /// Tells why a host key isn't trusted, about which nobody is asked.
+    fn tell_why(&self, rt: &HostRuntime, blob: &[u8]) -> Result<(), Fault> {
+        let host = self.settings.host.unwrap_or("");
+        if has_key(&self.trust.revoked, blob) {
+            let text = format!(in rt.alloc(); "known_hosts revokes this key of {host}")?;
+            report::tell(rt, &text);
+            return Ok(());
+        }
+        match self.trust.known {
+            Some(before) => {
+                let what = format!(in rt.alloc(); "has another key for {host}")?;
+                tell_line(rt, before, &what)
+            }
+            None => Ok(()),
+        }
+    }
+}
+
+/// How many characters of a key's hash a person types to trust it.
+const TYPED: usize = 6;
+
+/// Whether the person at the terminal trusts this host key, and says so by the first characters of its hash, which nobody can type
+/// before the question tells them.
 fn trusts(rt: &HostRuntime, settings: &Settings<'_>, blob: &[u8]) -> Result<bool, Fault> {
     let host = settings.host.unwrap_or("");
-    let question = question_of(rt.alloc(), host, blob)?;
-    Ok(is_confirmed(rt, &question))
+    let mut hash = String::new(rt.alloc());
+    STANDARD_NO_PAD.encode_string(&Sha256::digest(blob), &mut hash)?;
+    let question = question_of(rt.alloc(), host, &hash)?;
+    match hash.get(..TYPED) {
+        Some(word) => Ok(is_confirmed(rt, &question, word)),
+        None => Ok(false),
+    }
 }
 
 /// The question whether a host key is trusted, which it names by its fingerprint, as `ssh-keygen -l` does.
-fn question_of(alloc: Global, host: &str, blob: &[u8]) -> Result<String, Fault> {
-    let mut text = format!(in alloc; "no key of {host} is known; trust SHA256:")?;
-    STANDARD_NO_PAD.encode_string(&Sha256::digest(blob), &mut text)?;
-    text.push_str("? yes/no ")?;
-    Ok(text)
+fn question_of(alloc: Global, host: &str, hash: &str) -> Result<String, Fault> {
+    Ok(format!(in alloc;
+        "no key of {host} is known; SHA256:{hash}: type its first {TYPED} characters to trust it: "
+    )?)
 }

@@ -1,8 +1,8 @@
 //! The messages of a channel, made by hand (RFC 4254).
 
 use crate::channel::{
-    BY_APPLICATION, COMMAND_LIMIT, CONFIRMATION, DATA, DISCONNECT, GREETING, OPEN, PACKET, REQUEST,
-    WINDOW,
+    BY_APPLICATION, COMMAND_LIMIT, CONFIRMATION, DATA, DISCONNECT, GREETING, OPEN, OPEN_FAILURE,
+    PACKET, REQUEST, SHORTAGE, UNKNOWN_TYPE, WINDOW, WINDOW_ADJUST,
 };
 use crate::fault::Fault;
 use sshwire::{Memory, put_boolean, put_string, put_u32};
@@ -31,6 +31,26 @@ pub(crate) fn confirmation(alloc: Global, theirs: u32) -> Result<Vec<u8>, Memory
     put_u32(&mut payload, 0)?;
     put_u32(&mut payload, WINDOW)?;
     put_u32(&mut payload, PACKET)?;
+    Ok(payload)
+}
+
+/// CHANNEL_OPEN_FAILURE with this reason.
+pub(crate) fn open_failure(alloc: Global, theirs: u32, reason: u32) -> Result<Vec<u8>, Memory> {
+    let mut payload = of_channel(alloc, OPEN_FAILURE, theirs)?;
+    put_u32(&mut payload, reason)?;
+    match reason {
+        UNKNOWN_TYPE => put_string(&mut payload, b"unknown channel type")?,
+        SHORTAGE => put_string(&mut payload, b"one channel at a time")?,
+        _ => put_string(&mut payload, b"no channel is opened to a client")?,
+    }
+    put_string(&mut payload, b"")?;
+    Ok(payload)
+}
+
+/// CHANNEL_WINDOW_ADJUST (section 5.2): so many bytes more may come.
+pub(crate) fn adjust(alloc: Global, theirs: u32, count: u32) -> Result<Vec<u8>, Memory> {
+    let mut payload = of_channel(alloc, WINDOW_ADJUST, theirs)?;
+    put_u32(&mut payload, count)?;
     Ok(payload)
 }
 

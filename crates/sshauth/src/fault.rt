@@ -22,10 +22,18 @@ pub(crate) enum Fault {
     File(&'static str),
     /// The file that this option names isn't what it has to be.
     Form(&'static str),
+    /// The file that this option names has no private key that can be used.
+    Key(&'static str, KeyFault),
     /// The parts are refused.
     Config(ConfigFault),
+    /// The suite hasn't all that the parts name, by this code.
+    Suite(&'static str),
     /// What the peer sent after authentication can't be read.
     Session,
+    /// A word isn't UTF-8.
+    NotText,
+    /// The file that this option names can't be written.
+    Unwritable(&'static str),
 }
 
 impl Fault {
@@ -47,6 +55,12 @@ impl fmt::Display for Fault {
                 f,
                 "the file of --{option} hasn't the form that it needs"
             ),
+            Fault::Unwritable(option) => write!(f, "the file of --{option} can't be written"),
+            Fault::Key(option, fault) => write!(f, "the file of --{option} {}", fault.words()),
+            Fault::Suite(code) => write!(
+                f,
+                "the settings are refused: {code}: the suite hasn't all that they name"
+            ),
             Fault::Config(fault) => { write!(f, "the settings are refused: {fault}") }
             _ => f.write_str(text_of(self)),
         }
@@ -61,7 +75,8 @@ fn text_of(fault: &Fault) -> &'static str {
         Fault::Write => "write failed",
         Fault::Random => "no random bytes",
         Fault::Session => "the peer's packet can't be read",
-        _ => "bad words; docs/SSHAUTH.md has them",
+        Fault::NotText => "a word isn't UTF-8",
+        _ => "bad words; sshauth --help prints them",
     }
 }
 
@@ -106,6 +121,55 @@ impl From<WireFault> for Fault {
         match fault {
             WireFault::Memory => Fault::Memory,
             _ => Fault::Session,
+        }
+    }
+}
+
+/// Why a file has no private key that can be used.
+#[derive(Clone, Copy)]
+pub(crate) enum KeyFault {
+    /// It is a public key.
+    Public,
+    /// It is a private key in another form than OpenSSH's, as PEM.
+    OtherForm,
+    /// It has a passphrase.
+    Encrypted,
+    /// Its key is one of RSA.
+    Rsa,
+    /// Its key is one of ECDSA.
+    Ecdsa,
+    /// Its key is of another kind.
+    OtherKind,
+    /// It has more keys than one, or none.
+    Several,
+    /// It ends too early.
+    Cut,
+    /// Its public key isn't that of its private one.
+    Halves,
+    /// What fills it up is wrong, or bytes stand after its key.
+    Padding,
+    /// Others may read it, or write to it.
+    Readable,
+    /// It is none of these, and no private key.
+    Form,
+}
+
+impl KeyFault {
+    /// What is told of the file.
+    fn words(&self) -> &'static str {
+        match self {
+            KeyFault::Public => "is a public key, where a private one is wanted",
+            KeyFault::OtherForm => "has a key in another form (PEM) than OpenSSH's",
+            KeyFault::Encrypted => "has a passphrase, and no key with one can be read",
+            KeyFault::Rsa => "has a key of RSA, where one of ssh-ed25519 is wanted",
+            KeyFault::Ecdsa => "has a key of ECDSA, where one of ssh-ed25519 is wanted",
+            KeyFault::OtherKind => "has a key of another kind, where one of ssh-ed25519 is wanted",
+            KeyFault::Several => "hasn't just one key",
+            KeyFault::Cut => "is cut off",
+            KeyFault::Halves => "has a public key that isn't that of its private one",
+            KeyFault::Padding => "has wrong padding, or bytes after its key",
+            KeyFault::Readable => "may be read or written by others than its owner",
+            KeyFault::Form => "has no private key in OpenSSH's form",
         }
     }
 }

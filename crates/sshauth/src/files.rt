@@ -3,6 +3,10 @@
 use crate::fault::Fault;
 use std::fs;
 use std::io::ErrorKind;
+use std::os::unix::fs::PermissionsExt;
+
+/// The bits of a file's mode by which others than its owner may read, write or run it.
+const OTHERS: u32 = 0o077;
 
 /// The bytes of the file that the option names.
 pub(crate) fn bytes_of(
@@ -17,7 +21,33 @@ pub(crate) fn bytes_of(
     }
 }
 
-/// The same of a file that is text.
+/// The same of a file that may lack.
+pub(crate) fn bytes_if_there(
+    rt: &HostRuntime,
+    option: &'static str,
+    path: &str,
+) -> Result<Option<Vec<u8>>, Fault> {
+    match fs::read(rt, path) {
+        Ok(bytes) => Ok(Some(bytes)),
+        Err(error) if error.kind() == ErrorKind::NotFound => Ok(None),
+        Err(error) if error.kind() == ErrorKind::OutOfMemory => Err(Fault::Memory),
+        Err(_) => Err(Fault::File(option)),
+    }
+}
+
+/// Whether the file may be read and written by its owner alone.
+pub(crate) fn is_private(
+    rt: &HostRuntime,
+    option: &'static str,
+    path: &str,
+) -> Result<bool, Fault> {
+    match fs::metadata(rt, path) {
+        Ok(metadata) => Ok(metadata.permissions().mode() & OTHERS == 0),
+        Err(_) => Err(Fault::File(option)),
+    }
+}
+
+/// The bytes of a file that is text, as text.
 pub(crate) fn text_in<'a>(option: &'static str, bytes: &'a [u8]) -> Result<&'a str, Fault> {
     match str::from_utf8(bytes) {
         Ok(text) => Ok(text),

@@ -25,26 +25,67 @@ pub(crate) struct Findings<'a> {
     pub(crate) theirs: &'a Sent,
     /// The server's public host key, whose signature was verified.
     pub(crate) host_key: &'a Option<Vec<u8>>,
-    /// What the server has told people, a line for each.
+    /// What the server has told people since the last call, a line for each.
     pub(crate) notices: &'a str,
-    /// How the endpoint ended.
-    pub(crate) end: &'a End,
 }
 
-/// The report: a line `HOST KIND KEY`, of `ssh-ed25519` or `ssh-rsa`, and lines `# WORD VALUE` of all else, so that it is a file of host keys too.
-pub(crate) fn report_of(alloc: Global, findings: &Findings<'_>) -> Result<String, Fault> {
+/// What was told of a server before.
+#[derive(Clone, Copy)]
+pub(crate) struct Told {
+    version: bool,
+    kexinit: bool,
+    host_key: bool,
+}
+
+impl Told {
+    /// Nothing yet.
+    pub(crate) fn new() -> Told {
+        Told {
+            version: false,
+            kexinit: false,
+            host_key: false,
+        }
+    }
+}
+
+/// The lines of the report that are new: one `HOST KIND KEY`, of `ssh-ed25519` or `ssh-rsa`, and lines `# WORD VALUE` of all else, so
+/// that the report is a file of host keys too.
+pub(crate) fn lines_of(
+    alloc: Global,
+    findings: &Findings<'_>,
+    told: &mut Told,
+) -> Result<String, Fault> {
     let mut text = String::new(alloc);
-    if let Some(version) = &findings.theirs.version {
+    put_notices(&mut text, findings.notices)?;
+    if let Some(version) = &findings.theirs.version
+        && !told.version
+    {
+        told.version = true;
         writeln!(text, "# version {version}")?;
     }
-    if let Some(payload) = &findings.theirs.kexinit {
+    if let Some(payload) = &findings.theirs.kexinit
+        && !told.kexinit
+    {
+        told.kexinit = true;
         put_kexinit(alloc, &mut text, payload, findings)?;
     }
-    if let Some(key) = findings.host_key {
+    if let Some(key) = findings.host_key
+        && !told.host_key
+    {
+        told.host_key = true;
         put_key(alloc, &mut text, findings.host, key)?;
     }
-    put_notices(&mut text, findings.notices)?;
-    writeln!(text, "# end {}", Ended(findings.end))?;
+    Ok(text)
+}
+
+/// The last line: how the endpoint ended, and where this side has disconnected, after how many bytes.
+pub(crate) fn end_line(alloc: Global, end: &End, came: usize) -> Result<String, Fault> {
+    let mut text = String::new(alloc);
+    write!(text, "# end {}", Ended(end))?;
+    if matches!(end, End::Disconnected(_)) {
+        write!(text, ", after {came} bytes")?;
+    }
+    text.push('\n')?;
     Ok(text)
 }
 

@@ -1,5 +1,6 @@
 //! Which host key algorithms a client lists.
 
+use crate::key_lines::RSA_FRONT;
 use crate::parts::ALGORITHM;
 
 /// The algorithms of RSA host keys.
@@ -8,12 +9,9 @@ const RSA_ALGORITHMS: &str = "rsa-sha2-512,rsa-sha2-256";
 /// The algorithms of all host keys that can be verified.
 pub(crate) const ALL_ALGORITHMS: &str = "ssh-ed25519,rsa-sha2-512,rsa-sha2-256";
 
-/// How the blob of an RSA key begins (RFC 4253 section 6.6).
-const RSA_BLOB: &[u8] = b"\x00\x00\x00\x07ssh-rsa";
-
 /// Whether a public key is one of RSA.
 pub(crate) fn is_rsa_key(blob: &[u8]) -> bool {
-    blob.starts_with(RSA_BLOB)
+    blob.starts_with(RSA_FRONT)
 }
 
 /// The host key algorithms of the keys that a client trusts, since it takes no other host key.

@@ -1,11 +1,11 @@
-//! Which lines of a text give which public keys: authorized_keys and known_hosts (sshd(8)), as plain lines.
+//! Which lines of a text give which public keys: authorized_keys and known_hosts (sshd(8)).
 
-ghost use Rattle.std.specs.Prelude.{◌≡◌, ◌==◌, IfOk, false, map, not, option_map, position};
-ghost use Rattle.std.specs.List.{list_any, slice_split};
-ghost use Rattle.std.specs.Str.{bytes_eq};
-ghost use Rattle.sshauth.specs.KeyLines.{after_word, are_revoked, digits_after, digits_in, first_word, is_blank, is_mark, is_named, key_in, keys_in, unblanked};
+ghost use Rattle.std.specs.Prelude.{◌≡◌, ◌==◌, IfOk, map, not, option_map, position};
+ghost use Rattle.std.specs.List.{slice_split};
+ghost use Rattle.sshauth.specs.KeyLines.{after_word, first_line, first_word, front_of, is_blank, is_line, key_at, key_in, key_text, keys_in, means, unblanked};
 
 use crate::fault::Fault;
+use crate::host_names::mean;
 use crate::identity::base64_of;
 use std::alloc::Global;
 
@@ -14,54 +14,31 @@ const ED25519: &[u8] = b"ssh-ed25519";
 
 const RSA: &[u8] = b"ssh-rsa";
 
-/// The word in front of a line of known_hosts that revokes a key.
+/// What a key of each kind begins with (RFC 4253 section 6.6, RFC 8709 section 4).
+const ED25519_FRONT: &[u8] = b"\x00\x00\x00\x0bssh-ed25519";
+
+pub(crate) const RSA_FRONT: &[u8] = b"\x00\x00\x00\x07ssh-rsa";
+
+/// The marks in front of a line of known_hosts: of a key that is revoked, and of a certification authority's.
 const REVOKED: &[u8] = b"@revoked";
+
+const AUTHORITY: &[u8] = b"@cert-authority";
 
 /// Which lines of a text are looked for.
 #[derive(Clone, Copy)]
 pub(crate) enum KeyLine<'a> {
     /// `KIND KEY COMMENT`, where the kind is `ssh-ed25519` or `ssh-rsa`: of authorized_keys, without options.
     Authorized,
-    /// `NAME,NAME KIND KEY COMMENT`: of known_hosts, where one of the names is this one.
+    /// `NAMES KIND KEY COMMENT`: of known_hosts, where the names mean this host.
     Known(&'a [u8]),
     /// `@revoked NAMES KIND KEY COMMENT`: of known_hosts, whatever the names.
     Revoked,
+    /// `@cert-authority NAMES KIND KEY COMMENT`: of known_hosts, where the names mean this host.
+    Authority(&'a [u8]),
 }
 
-/// The host keys of a text of known_hosts that are trusted for a host: those of the lines with its name. A text that
-/// revokes one of them is refused, as the file of this option.
-pub(crate) fn known_keys(
-    alloc: Global,
-    option: &'static str,
-    text: &[u8],
-    host: &[u8],
-) -> Result<Vec<Vec<u8>>, Fault>
-    ensures keys { IfOk result (λ keys. map (λ key. key.items) keys.items ≡ keys_in (KeyLine.Known host.entry) text.now) }
-    ensures none_revoked { IfOk result (λ keys. are_revoked text.now (map (λ key. key.items) keys.items) ≡ false) }
-{
-    let keys = keys_in(alloc, option, KeyLine::Known(host), text)?;
-    let revoked = keys_in(alloc, option, KeyLine::Revoked, text)?;
-    if any_is_one_of(&keys, &revoked) {
-        return Err(Fault::Form(option));
-    }
-    Ok(keys)
-}
-
-/// Whether one of the keys is one of the others.
-fn any_is_one_of(keys: &[Vec<u8>], others: &[Vec<u8>]) -> bool
-    ensures { result ≡ list_any (λ key. list_any (λ other. bytes_eq other.items key.items) others.now) keys.now }
-{
-    keys.iter().any(|key| is_one_of(others, key))
-}
-
-/// Whether the key is one of these.
-fn is_one_of(keys: &[Vec<u8>], key: &[u8]) -> bool
-    ensures { result ≡ list_any (λ own. bytes_eq own.items key.now) keys.now }
-{
-    keys.iter().any(|own| own.as_slice() == key)
-}
-
-/// The keys of the lines that are looked for, in their order. A text with such a line whose key can't be read is refused.
+/// The keys of the lines that are looked for, in their order. A text with such a line whose key can't be read, or is of another
+/// kind than the line says, is refused as the file of this option.
 pub(crate) fn keys_in(
     alloc: Global,
     option: &'static str,
@@ -79,6 +56,44 @@ pub(crate) fn keys_in(
     Ok(keys)
 }
 
+/// How many lines stand before the first one that is looked for, whatever the kind of its key.
+#[tactic(auto, using(crate::proofs::KeyLineLemmas::position_marks), unfolding(crate::specs::KeyLines::first_line))]
+pub(crate) fn first_line(
+    alloc: Global,
+    kind: KeyLine<'_>,
+    text: &[u8],
+) -> Result<Option<usize>, Fault>
+    ensures { IfOk result (λ found. found ≡ first_line kind.entry text.now) }
+{
+    let marks = marks_of(alloc, kind, text)?;
+    Ok(first_mark(&marks))
+}
+
+/// Where the first mark stands.
+fn first_mark(marks: &[bool]) -> Option<usize>
+    ensures { result ≡ position (λ mark. mark) marks.now }
+{
+    marks.iter().position(|mark| *mark)
+}
+
+/// Of each line, whether it is one that is looked for.
+fn marks_of(alloc: Global, kind: KeyLine<'_>, text: &[u8]) -> Result<Vec<bool>, Fault>
+    ensures { IfOk result (λ marks. marks.items ≡ map (is_line kind.entry) (slice_split (λ byte. byte == 10) text.now)) }
+{
+    let mut marks = Vec::new(alloc);
+    for line in text.split(|byte| *byte == b'\n') {
+        marks.push(is_line(alloc, kind, line)?)?;
+    }
+    Ok(marks)
+}
+
+/// Whether a line is one that is looked for.
+fn is_line(alloc: Global, kind: KeyLine<'_>, line: &[u8]) -> Result<bool, Fault>
+    ensures { IfOk result (λ found. found ≡ is_line kind.entry line.now) }
+{
+    Ok(key_text(alloc, kind, line)?.is_some())
+}
+
 /// The key of a line, if it is looked for.
 #[tactic(auto, unfolding(crate::specs::KeyLines::key_in))]
 fn key_in(
@@ -89,66 +104,64 @@ fn key_in(
 ) -> Result<Option<Vec<u8>>, Fault>
     ensures { IfOk result (λ found. option_map (λ key. key.items) found ≡ key_in kind.entry line.now) }
 {
-    let Some(digits) = digits_in(kind, line) else {
-        return Ok(None);
-    };
-    match base64_of(alloc, digits)? {
-        Some(key) => Ok(Some(key)),
-        None => Err(Fault::Form(option)),
+    match key_text(alloc, kind, line)? {
+        Some(text) => key_at(alloc, option, text),
+        None => Ok(None),
     }
 }
 
-/// The digits of a line's key, if it is looked for.
-fn digits_in<'a>(kind: KeyLine<'_>, line: &'a [u8]) -> Option<&'a [u8]>
-    ensures { option_map (λ digits. digits.now) result ≡ digits_in kind.entry line.now }
+/// What stands in a line where a key has to, if the line is looked for.
+fn key_text<'a>(alloc: Global, kind: KeyLine<'_>, line: &'a [u8]) -> Result<Option<&'a [u8]>, Fault>
+    ensures { IfOk result (λ found. option_map (λ text. text.now) found ≡ key_text kind.entry line.now) }
 {
     let (word, after) = cut_word(line);
+    let (second, rest) = cut_word(after);
     match kind {
-        KeyLine::Authorized => digits_after(line),
-        KeyLine::Known(host) if is_named(word, host) => digits_after(after),
-        KeyLine::Revoked if word == REVOKED => digits_after(cut_word(after).1),
-        _ => None,
+        KeyLine::Authorized => Ok(Some(line)),
+        KeyLine::Known(host) => Ok(means(alloc, word, host)?.then_some(after)),
+        KeyLine::Revoked => Ok((word == REVOKED).then_some(rest)),
+        KeyLine::Authority(host) => {
+            Ok((word == AUTHORITY && means(alloc, second, host)?).then_some(rest))
+        }
     }
 }
 
-/// The digits of a key, where the text begins with one of a kind that is known.
-fn digits_after(text: &[u8]) -> Option<&[u8]>
-    ensures { option_map (λ digits. digits.now) result ≡ digits_after text.now }
+/// Whether a word is names that mean the host. A mark, a comment and no word mean none.
+fn means(alloc: Global, word: &[u8], host: &[u8]) -> Result<bool, Fault>
+    ensures { IfOk result (λ found. found ≡ means word.now host.now) }
+{
+    if word.is_empty() || word.starts_with(b"#") || word.starts_with(b"@") {
+        return Ok(false);
+    }
+    mean(alloc, word, host)
+}
+
+/// The key at the front of a text, where a known kind stands there.
+#[tactic(auto, unfolding(crate::specs::KeyLines::key_at))]
+fn key_at(alloc: Global, option: &'static str, text: &[u8]) -> Result<Option<Vec<u8>>, Fault>
+    ensures { IfOk result (λ found. option_map (λ key. key.items) found ≡ key_at text.now) }
 {
     let (kind, after) = cut_word(text);
-    if kind == ED25519 || kind == RSA {
-        Some(cut_word(after).0)
+    let Some(front) = front_of(kind) else {
+        return Ok(None);
+    };
+    match base64_of(alloc, cut_word(after).0)? {
+        Some(key) if key.starts_with(front) => Ok(Some(key)),
+        _ => Err(Fault::Form(option)),
+    }
+}
+
+/// What the bytes of a key of this kind begin with, if it is a known one.
+fn front_of(kind: &[u8]) -> Option<&'static [u8]>
+    ensures { option_map (λ front. front.now) result ≡ front_of kind.now }
+{
+    if kind == ED25519 {
+        Some(ED25519_FRONT)
+    } else if kind == RSA {
+        Some(RSA_FRONT)
     } else {
         None
     }
-}
-
-/// Whether the host is one of the names. None is where the names are hashed, a mark, a comment, or say who isn't meant.
-fn is_named(names: &[u8], host: &[u8]) -> bool
-    ensures { result ≡ is_named names.now host.now }
-{
-    !has_mark(names) && has_name(names, host)
-}
-
-/// Whether the host is one of what stands between the commas.
-fn has_name(names: &[u8], host: &[u8]) -> bool
-    ensures { result ≡ list_any (λ name. bytes_eq name host.now) (slice_split (λ byte. byte == 44) names.now) }
-{
-    names.split(|byte| *byte == b',').any(|name| name == host)
-}
-
-/// Whether one of the bytes is a mark.
-fn has_mark(names: &[u8]) -> bool
-    ensures { result ≡ list_any is_mark names.now }
-{
-    names.iter().any(|byte| is_mark(*byte))
-}
-
-/// Whether names with this byte are no plain names.
-fn is_mark(byte: u8) -> bool
-    ensures { result ≡ is_mark byte }
-{
-    byte == b'@' || byte == b'#' || byte == b'|' || byte == b'!'
 }
 
 /// The first word of a text, and what stands after it. No word is an empty one.

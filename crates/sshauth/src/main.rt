@@ -5,35 +5,47 @@
 mod answers;
 mod authorized;
 mod channel;
+mod channel_answers;
 mod channel_messages;
 mod clear_stream;
+mod command;
 mod fault;
 mod files;
 mod findings;
+mod greeter;
 mod host_keys;
+mod host_names;
 mod identity;
 mod key_lines;
 mod notices;
 mod parts;
 mod probe;
+mod remote_output;
 mod report;
 mod session_stream;
 mod settings;
 mod talk;
 mod terminal;
 mod trust;
+mod usage;
+mod word_fault;
 mod words;
 
 use crate::fault::Fault;
 use crate::settings::{Job, Settings};
+use crate::usage::USAGE;
+use crate::word_fault::WordFault;
+use crate::words::{Asked, read_words};
 use std::env;
 use std::io::Write;
 use std::process::ExitCode;
 
+/// The status of words that are refused.
+const REFUSED: u8 = 2;
+
 fn main(rt: HostRuntime) -> ExitCode {
     match run(&rt) {
-        Ok(true) => ExitCode::SUCCESS,
-        Ok(false) => ExitCode::FAILURE,
+        Ok(status) => ExitCode::from(status),
         Err(fault) => {
             let _ = writeln!(rt.stderr(), "sshauth: {fault}");
             ExitCode::from(fault.status())
@@ -41,15 +53,34 @@ fn main(rt: HostRuntime) -> ExitCode {
     }
 }
 
-/// Does what the words ask for, and answers whether the user was authenticated, or a probe saw the server's lists.
-fn run(rt: &HostRuntime) -> Result<bool, Fault> {
+/// Does what the words ask for, and answers the exit status.
+fn run(rt: &HostRuntime) -> Result<u8, Fault> {
     let words = words_of(rt)?;
-    let matches = words::matches_of(rt.alloc(), &words)?;
-    let settings = words::settings_of(&matches)?;
+    match read_words(rt.alloc(), &words) {
+        Ok(Asked::Work(settings)) => work(rt, &settings),
+        Ok(Asked::Usage) => {
+            let written = rt.stdout().write_all(USAGE.as_bytes());
+            written.map_err(|_| Fault::Write)?;
+            Ok(0)
+        }
+        Ok(Asked::Nothing) => {
+            let _ = rt.stderr().write_all(USAGE.as_bytes());
+            Ok(REFUSED)
+        }
+        Err(WordFault::Memory) => Err(Fault::Memory),
+        Err(fault) => {
+            let _ = writeln!(rt.stderr(), "sshauth: {fault}");
+            Ok(REFUSED)
+        }
+    }
+}
+
+/// Does a job, and answers the exit status.
+fn work(rt: &HostRuntime, settings: &Settings<'_>) -> Result<u8, Fault> {
     match settings.role {
-        Job::Client => talk::client(rt, &settings),
-        Job::Server => talk::server(rt, &settings),
-        Job::Probe => probe::probe(rt, &settings),
+        Job::Client => talk::client(rt, settings),
+        Job::Server => talk::server(rt, settings),
+        Job::Probe => probe::probe(rt, settings),
     }
 }
 
@@ -57,7 +88,7 @@ fn run(rt: &HostRuntime) -> Result<bool, Fault> {
 fn words_of(rt: &HostRuntime) -> Result<Vec<String>, Fault> {
     let mut words = Vec::new(rt.alloc());
     let Ok(all) = env::args(rt) else {
-        return Err(Fault::Words);
+        return Err(Fault::NotText);
     };
     for word in all.skip(1) {
         words.push(word)?;

@@ -109,15 +109,21 @@ fn put_lines(lines: &mut String, word: &str, text: &[u8]) -> Result<(), AllocErr
 }
 
 /// Puts a line.
-fn put_line(lines: &mut String, word: &str, text: &[u8]) -> Result<(), AllocError> {
+pub(crate) fn put_line(lines: &mut String, word: &str, text: &[u8]) -> Result<(), AllocError> {
     write!(lines, "{word} ")?;
+    put_shown(lines, text)?;
+    lines.push('\n')
+}
+
+/// Puts bytes of a peer: one that is no printable character of ASCII stands as `\xNN`.
+pub(crate) fn put_shown(lines: &mut String, text: &[u8]) -> Result<(), AllocError> {
     for byte in text {
         match byte {
             b' '..=b'~' => lines.push(char::from(*byte))?,
             _ => write!(lines, "\\x{byte:02x}")?,
         }
     }
-    lines.push('\n')
+    Ok(())
 }
 
 /// Puts the names of the methods that can continue, and whether the request was successful as one of several.

@@ -3,13 +3,15 @@
 use crate::authorized::{HostKeys, authorized_keys, known_hosts};
 use crate::fault::Fault;
 use crate::files::{bytes_of, first_line};
+use crate::host_keys::ALL_ALGORITHMS;
 use crate::identity::private_key;
 use crate::settings::Settings;
 use crate::trust::Trust;
 use sshcore::{
     Attempt, ClientConfig, ClientParts, Credential, Draws, HostKey, ServerConfig, ServerParts,
-    SideParts,
+    SideParts, SuiteFault,
 };
+use sshsuite::DeployedSuite;
 use std::alloc::Global;
 use std::random::RandomSource;
 
@@ -19,6 +21,9 @@ const SERVICE: &str = "ssh-connection";
 /// The algorithm of private keys.
 pub(crate) const ALGORITHM: &str = "ssh-ed25519";
 
+/// How many bytes of packets that say nothing are taken before the end is F17: 1 MiB.
+const IGNORED_LIMIT: u32 = 1 << 20;
+
 /// A client's config that lists these host key algorithms.
 pub(crate) fn client_config(
     rt: &HostRuntime,
@@ -27,8 +32,12 @@ pub(crate) fn client_config(
 ) -> Result<Box<ClientConfig>, Fault> {
     let parts = client_parts(rt, settings, host_key_algorithms)?;
     let parts = Box::new(rt.alloc(), parts)?;
-    let config = ClientConfig::new(rt.alloc(), Box::into_inner(parts))?;
-    Ok(Box::new(rt.alloc(), config)?)
+    let config = Box::new(
+        rt.alloc(),
+        ClientConfig::new(rt.alloc(), Box::into_inner(parts))?,
+    )?;
+    judged(config.judge(&DeployedSuite))?;
+    Ok(config)
 }
 
 /// A server's config.
@@ -37,8 +46,20 @@ pub(crate) fn server_config(
     settings: &Settings<'_>,
 ) -> Result<Box<ServerConfig>, Fault> {
     let parts = Box::new(rt.alloc(), server_parts(rt, settings)?)?;
-    let config = ServerConfig::new(rt.alloc(), Box::into_inner(parts))?;
-    Ok(Box::new(rt.alloc(), config)?)
+    let config = Box::new(
+        rt.alloc(),
+        ServerConfig::new(rt.alloc(), Box::into_inner(parts))?,
+    )?;
+    judged(config.judge(&DeployedSuite))?;
+    Ok(config)
+}
+
+/// That the suite has all that a config names, and holds its private keys.
+fn judged(fit: Result<(), SuiteFault<'_>>) -> Result<(), Fault> {
+    match fit {
+        Ok(()) => Ok(()),
+        Err(fault) => Err(Fault::Suite(fault.code())),
+    }
 }
 
 /// Whom a client trusts: the host of this name in its file.
@@ -46,9 +67,15 @@ pub(crate) fn client_trust(rt: &HostRuntime, settings: &Settings<'_>) -> Result<
     let (Some(path), Some(host)) = (settings.known_hosts, settings.host) else {
         return Err(Fault::Words);
     };
-    let HostKeys { keys, revoked } = known_hosts(rt, "known-hosts", path, host)?;
+    let HostKeys {
+        keys,
+        revoked,
+        known,
+        ..
+    } = known_hosts(rt, "known-hosts", path, host)?;
     Ok(Trust {
         keys,
+        known,
         revoked,
         user: String::from_str(rt.alloc(), settings.user)?,
         password: None,
@@ -64,6 +91,7 @@ pub(crate) fn server_trust(rt: &HostRuntime, settings: &Settings<'_>) -> Result<
     let user = String::from_str(rt.alloc(), settings.user)?;
     Ok(Trust {
         keys,
+        known: None,
         revoked: Vec::new(rt.alloc()),
         user,
         password: password_of(rt, settings)?,
@@ -156,6 +184,7 @@ fn server_parts(rt: &HostRuntime, settings: &Settings<'_>) -> Result<ServerParts
         services,
         methods,
         required,
+        signature_algorithms: names_of(alloc, ALL_ALGORITHMS)?,
         tries: settings.tries,
         banner,
         notice_lines: Vec::new(alloc),
@@ -208,6 +237,7 @@ fn side_of(alloc: Global, settings: &Settings<'_>) -> Result<SideParts, Fault> {
         cookie,
         exchange_random,
         padding_seed,
+        ignored_limit: Some(IGNORED_LIMIT),
     })
 }
 

@@ -3,9 +3,10 @@
 
 ghost use Rattle.sshauth.specs.Trust.{any_host_policy};
 
+use crate::channel::BY_APPLICATION;
 use crate::clear_stream::ClearStream;
 use crate::fault::Fault;
-use crate::findings::{Findings, report_of};
+use crate::findings::{Findings, Told, end_line, lines_of};
 use crate::host_keys::ALL_ALGORITHMS;
 use crate::notices::{Listening, Notices};
 use crate::parts::{client_config, draw};
@@ -14,8 +15,14 @@ use crate::talk::{CHUNK, receive, send};
 use sshcore::{ClientConfig, Decisions, End, Endpoint, Proof};
 use sshsuite::DeployedSuite;
 use sshwire::OTHER_LINE_LIMIT;
-use std::fs;
+use std::fs::File;
 use std::io::Write;
+
+/// The exit status of a probe that has not seen the server's lists.
+const NO_LISTS: u8 = 1;
+
+/// How many bytes a probe takes of a server before it disconnects.
+const TAKEN: usize = 1 << 20;
 
 /// The decisions of a client that only looks: any host key will do, since nothing is told to the server that
 /// another couldn't know.
@@ -39,26 +46,44 @@ impl Decisions for AnyHost {
 /// An endpoint of a probe.
 type Prober<'a> = Endpoint<'a, DeployedSuite, Listening<'a, AnyHost>>;
 
-/// What both sides have sent.
+/// What both sides have sent, and what was told of it.
 #[derive(Drop)]
 struct Looked {
     ours: ClearStream,
     theirs: ClearStream,
     /// The server's public host key, once its signature was verified.
     host_key: Option<Vec<u8>>,
+    /// How many bytes have come.
+    came: usize,
+    told: Told,
+    report: Option<File>,
 }
 
-/// Looks at a server and tells what it finds. Answers whether the server's lists came.
-pub(crate) fn probe(rt: &HostRuntime, settings: &Settings<'_>) -> Result<bool, Fault> {
-    if settings.host.is_none() {
-        return Err(Fault::Words);
-    }
+/// Looks at a server and tells what it finds. Answers the exit status: whether the server's lists came.
+pub(crate) fn probe(rt: &HostRuntime, settings: &Settings<'_>) -> Result<u8, Fault> {
+    let report = report_at(rt, settings.report)?;
     let config = client_config(rt, settings, ALL_ALGORITHMS)?;
-    begin(rt, settings, &config)
+    begin(rt, settings, report, &config)
+}
+
+/// The file to which the report goes, where one is named: it is made anew.
+fn report_at(rt: &HostRuntime, path: Option<&str>) -> Result<Option<File>, Fault> {
+    match path {
+        None => Ok(None),
+        Some(path) => match File::create(rt, path) {
+            Ok(file) => Ok(Some(file)),
+            Err(_) => Err(Fault::Unwritable("report")),
+        },
+    }
 }
 
 /// The same by an endpoint of this config.
-fn begin(rt: &HostRuntime, settings: &Settings<'_>, config: &ClientConfig) -> Result<bool, Fault> {
+fn begin(
+    rt: &HostRuntime,
+    settings: &Settings<'_>,
+    report: Option<File>,
+    config: &ClientConfig,
+) -> Result<u8, Fault> {
     let draws = draw(rt)?;
     let notices = &Notices::new(rt.alloc());
     let decisions = &Listening {
@@ -74,7 +99,15 @@ fn begin(rt: &HostRuntime, settings: &Settings<'_>, config: &ClientConfig) -> Re
         decisions,
         &mut out,
     )?;
-    look(rt, settings, endpoint, out, notices)
+    let looked = Looked {
+        ours: ClearStream::new(rt.alloc(), 0),
+        theirs: ClearStream::new(rt.alloc(), OTHER_LINE_LIMIT),
+        host_key: None,
+        came: 0,
+        told: Told::new(),
+        report,
+    };
+    look(rt, settings, endpoint, out, looked, notices)
 }
 
 /// The same by an endpoint that has sent these bytes so far.
@@ -83,64 +116,78 @@ fn look(
     settings: &Settings<'_>,
     endpoint: Prober<'_>,
     out: Vec<u8>,
+    looked: Looked,
     notices: &Notices,
-) -> Result<bool, Fault> {
-    let (mut endpoint, alloc) = (endpoint, rt.alloc());
-    let mut looked = Looked {
-        ours: ClearStream::new(alloc, 0),
-        theirs: ClearStream::new(alloc, OTHER_LINE_LIMIT),
-        host_key: None,
-    };
-    let carried = carry(rt, &mut endpoint, out, &mut looked);
-    let told = found(rt, settings, &looked, endpoint.end(), &notices.taken());
+) -> Result<u8, Fault> {
+    let (mut endpoint, mut looked) = (endpoint, looked);
+    let carried = carry(rt, settings, &mut endpoint, out, &mut looked, notices);
+    let told = looked.tell_end(rt, settings, notices, endpoint.end());
     drop(endpoint);
-    let has_lists = looked.theirs.sent.kexinit.is_some();
+    let status = if looked.theirs.sent.kexinit.is_some() {
+        0
+    } else {
+        NO_LISTS
+    };
     drop(looked);
     told?;
     carried?;
-    Ok(has_lists)
+    Ok(status)
 }
 
-/// Tells what both sides have sent, and how the endpoint ended.
-fn found(
-    rt: &HostRuntime,
-    settings: &Settings<'_>,
-    looked: &Looked,
-    end: &End,
-    notices: &str,
-) -> Result<(), Fault> {
-    let Some(host) = settings.host else {
-        return Err(Fault::Words);
-    };
-    let findings = Findings {
-        host,
-        strict: settings.strict,
-        ours: &looked.ours.sent,
-        theirs: &looked.theirs.sent,
-        host_key: &looked.host_key,
-        notices,
-        end,
-    };
-    tell(rt, settings.report, &report_of(rt.alloc(), &findings)?)
-}
+impl Looked {
+    /// Tells what is new of what both sides have sent.
+    fn tell(
+        &mut self,
+        rt: &HostRuntime,
+        settings: &Settings<'_>,
+        notices: &Notices,
+    ) -> Result<(), Fault> {
+        let notices = notices.taken();
+        let findings = Findings {
+            host: settings.host.unwrap_or(""),
+            strict: settings.strict,
+            ours: &self.ours.sent,
+            theirs: &self.theirs.sent,
+            host_key: &self.host_key,
+            notices: &notices,
+        };
+        let lines = lines_of(rt.alloc(), &findings, &mut self.told)?;
+        self.write(rt, &lines)
+    }
 
-/// Writes what was found to the file, or where none is named to standard error.
-fn tell(rt: &HostRuntime, path: Option<&str>, report: &str) -> Result<(), Fault> {
-    match path {
-        Some(path) => fs::write(rt, path, report).map_err(|_| Fault::Write),
-        None => {
-            let _ = rt.stderr().write_all(report.as_bytes());
-            Ok(())
+    /// Tells what wasn't told yet, and how the endpoint ended.
+    fn tell_end(
+        &mut self,
+        rt: &HostRuntime,
+        settings: &Settings<'_>,
+        notices: &Notices,
+        end: &End,
+    ) -> Result<(), Fault> {
+        self.tell(rt, settings, notices)?;
+        let line = end_line(rt.alloc(), end, self.came)?;
+        self.write(rt, &line)
+    }
+
+    /// Writes lines to the report, or where none is named to standard error.
+    fn write(&mut self, rt: &HostRuntime, lines: &str) -> Result<(), Fault> {
+        match &mut self.report {
+            Some(file) => file.write_all(lines.as_bytes()).map_err(|_| Fault::Write),
+            None => {
+                let _ = rt.stderr().write_all(lines.as_bytes());
+                Ok(())
+            }
         }
     }
 }
 
-/// Gives the endpoint what comes until it has ended.
+/// Gives the endpoint what comes until it has ended, or too much has come.
 fn carry(
     rt: &HostRuntime,
+    settings: &Settings<'_>,
     endpoint: &mut Prober<'_>,
     out: Vec<u8>,
     looked: &mut Looked,
+    notices: &Notices,
 ) -> Result<(), Fault> {
     looked.ours.receive_all(rt.alloc(), &out)?;
     let mut out = out;
@@ -156,8 +203,12 @@ fn carry(
         if count == 0 {
             endpoint.end_of_input();
         }
+        looked.came = looked.came.saturating_add(count);
         let piece = chunk.get(..count).unwrap_or(&[]);
-        give(rt, endpoint, piece, &mut out, looked)?;
+        give(rt, settings, endpoint, piece, &mut out, looked, notices)?;
+        if looked.came >= TAKEN {
+            endpoint.disconnect(BY_APPLICATION, "", &mut out)?;
+        }
     }
     Ok(())
 }
@@ -166,10 +217,12 @@ fn carry(
 /// NEWKEYS: it is the reply whose signature was verified.
 fn give(
     rt: &HostRuntime,
+    settings: &Settings<'_>,
     endpoint: &mut Prober<'_>,
     piece: &[u8],
     out: &mut Vec<u8>,
     looked: &mut Looked,
+    notices: &Notices,
 ) -> Result<(), Fault> {
     let mut rest = piece;
     for _ in 0..u64::MAX {
@@ -185,6 +238,7 @@ fn give(
             looked.host_key = looked.theirs.sent.host_key.take();
         }
         out.extend_from_slice(&reply)?;
+        looked.tell(rt, settings, notices)?;
         rest = after;
     }
     Ok(())

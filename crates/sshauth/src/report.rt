@@ -1,10 +1,15 @@
 //! What is told on standard error. A report that can't be written is left out.
 
 use crate::fault::Fault;
-use crate::notices::Notices;
+use crate::notices::{Notices, put_line};
 use sshcore::{Accepted, End, Session};
+use sshneg::NoCommon;
 use std::fmt;
 use std::io::Write;
+
+/// What is told beside F8 of kex, since a method needs a host key algorithm of both lists (RFC 4253 section 7.1).
+const HOST_KEYS: &str =
+    "no method is common, or no host key algorithm; a client lists those of the keys that it trusts";
 
 /// How an endpoint ended, in words.
 #[derive(Clone, Copy)]
@@ -31,6 +36,9 @@ pub(crate) fn notices(rt: &HostRuntime, notices: &Notices) {
 pub(crate) fn end(rt: &HostRuntime, end: &End) {
     if !matches!(end, End::Authenticated(_)) {
         let _ = writeln!(rt.stderr(), "{}", Ended(end));
+    }
+    if let End::Failed(sshcore::Fault::NoCommon(NoCommon::Kex)) = end {
+        tell(rt, HOST_KEYS);
     }
 }
 
@@ -77,4 +85,12 @@ pub(crate) fn tell(rt: &HostRuntime, text: &str) {
 /// Prints a line with a number.
 pub(crate) fn tell_number(rt: &HostRuntime, text: &str, number: u32) {
     let _ = writeln!(rt.stderr(), "{text} {number}");
+}
+
+/// Prints a line with bytes of the peer.
+pub(crate) fn tell_shown(rt: &HostRuntime, word: &str, bytes: &[u8]) -> Result<(), Fault> {
+    let mut line = String::new(rt.alloc());
+    put_line(&mut line, word, bytes)?;
+    let _ = rt.stderr().write_all(line.as_bytes());
+    Ok(())
 }

@@ -6,7 +6,7 @@ use crate::host_keys::algorithms_of;
 use crate::notices::Notices;
 use crate::parts::{client_config, client_trust, draw, server_config, server_trust};
 use crate::settings::Settings;
-use crate::{channel, report};
+use crate::{command, greeter, report};
 use sshcore::{AskingEndpoint, ClientConfig, End, Fed, ServerConfig, Session};
 use sshsuite::DeployedSuite;
 use std::io::{Read, Write};
@@ -20,29 +20,29 @@ type SuiteEndpoint<'a> = AskingEndpoint<'a, DeployedSuite, Notices>;
 /// A session, and the bytes that came after the packet that ended the endpoint.
 type Handed = Option<(Box<Session>, Vec<u8>)>;
 
-/// A client, and what it asks for after SUCCESS. Answers whether the user was authenticated.
-pub(crate) fn client(rt: &HostRuntime, settings: &Settings<'_>) -> Result<bool, Fault> {
+/// The exit status of a session whose user wasn't authenticated.
+const FAILED: u8 = 1;
+
+/// A client, and what it asks for after SUCCESS. Answers the exit status: that of its command, where it has one.
+pub(crate) fn client(rt: &HostRuntime, settings: &Settings<'_>) -> Result<u8, Fault> {
     let trust = &client_trust(rt, settings)?;
     let config = client_config(rt, settings, algorithms_of(&trust.keys))?;
     match client_session(rt, &config, Answers { settings, trust })? {
-        Some((session, after)) => {
-            channel::ask(rt, session, after, settings.exec)?;
-            Ok(true)
-        }
-        None => Ok(false),
+        Some((session, after)) => command::ask(rt, session, after, settings.exec),
+        None => Ok(FAILED),
     }
 }
 
-/// A server, and what it answers after SUCCESS. Answers whether the user was authenticated.
-pub(crate) fn server(rt: &HostRuntime, settings: &Settings<'_>) -> Result<bool, Fault> {
+/// A server, and what it answers after SUCCESS. Answers the exit status.
+pub(crate) fn server(rt: &HostRuntime, settings: &Settings<'_>) -> Result<u8, Fault> {
     let config = server_config(rt, settings)?;
     let trust = &server_trust(rt, settings)?;
     match server_session(rt, &config, Answers { settings, trust })? {
         Some((session, after)) => {
-            channel::answer(rt, session, after)?;
-            Ok(true)
+            greeter::answer(rt, session, after)?;
+            Ok(0)
         }
-        None => Ok(false),
+        None => Ok(FAILED),
     }
 }
 

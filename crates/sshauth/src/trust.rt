@@ -7,14 +7,17 @@ ghost use Rattle.sshcore.specs.QuestionsView.{question_data};
 ghost use Rattle.sshauth.specs.Trust.{has_key, is_own, is_trusted, leaves_open, proves, trust_policy};
 
 use sshcore::{Decisions, Proof, Question};
+use sshsuite::is_same_secret;
 
-/// The public keys that are trusted, of hosts at a client and of the user at a server, and those that a client's file revokes;
-/// the one user, and a password.
+/// The public keys that are trusted, of a host at a client and of the user at a server, but for those that a client's file
+/// revokes; the one user, and a password.
 ///
 /// It has no `Debug`: passwords are never printed.
 #[derive(Drop)]
 pub(crate) struct Trust {
     pub(crate) keys: Vec<Vec<u8>>,
+    /// How many lines of a client's file stand before the first one of the host, if there is one.
+    pub(crate) known: Option<usize>,
     pub(crate) revoked: Vec<Vec<u8>>,
     pub(crate) user: String,
     pub(crate) password: Option<Vec<u8>>,
@@ -52,23 +55,23 @@ impl Trust {
         }
     }
 
-    /// Whether a person may be asked about this host key: no key of the host is known, and this one isn't revoked.
+    /// Whether a person may be asked about this host key: no line is the host's, and this key isn't revoked.
     pub(crate) fn leaves_open(&self, blob: &[u8]) -> bool
         ensures { result ≡ leaves_open self.now blob.now }
     {
-        self.keys.is_empty() && !has_key(&self.revoked, blob)
+        self.known.is_none() && !has_key(&self.revoked, blob)
     }
 }
 
-/// Whether the key is trusted.
+/// Whether the key is trusted: one of the keys, and not revoked.
 fn is_trusted(trust: &Trust, blob: &[u8]) -> bool
     ensures { result ≡ is_trusted trust.now blob.now }
 {
-    has_key(&trust.keys, blob)
+    has_key(&trust.keys, blob) && !has_key(&trust.revoked, blob)
 }
 
 /// Whether the key is one of these.
-fn has_key(keys: &[Vec<u8>], blob: &[u8]) -> bool
+pub(crate) fn has_key(keys: &[Vec<u8>], blob: &[u8]) -> bool
     ensures { result ≡ has_key keys.now blob.now }
 {
     keys.iter().any(|key| key.as_slice() == blob)
@@ -90,7 +93,7 @@ fn is_own(own: &Option<Vec<u8>>, bytes: &[u8]) -> bool
     ensures { result ≡ is_own (option_map (λ v. v.items) own.now) bytes.now }
 {
     match own {
-        Some(own) => own.as_slice() == bytes,
+        Some(own) => is_same_secret(own, bytes),
         None => false,
     }
 }

@@ -1,10 +1,27 @@
-//! The program's words, read with `clap`.
+//! The program's words.
 
-use crate::fault::Fault;
+use crate::channel::COMMAND_LIMIT;
 use crate::settings::{Job, Settings};
-use clap::error::ErrorKind;
-use clap::{Arg, ArgAction, ArgMatches, Command};
-use std::alloc::{AllocError, Global};
+use crate::word_fault::WordFault;
+use std::alloc::Global;
+
+/// What the words ask for.
+#[derive(Clone, Copy)]
+pub(crate) enum Asked<'a> {
+    /// Nothing: there are no words.
+    Nothing,
+    /// How the words go.
+    Usage,
+    /// A job.
+    Work(Settings<'a>),
+}
+
+/// An option, without the two minus signs in front, and its value.
+#[derive(Clone, Copy)]
+struct Given<'a> {
+    option: &'a str,
+    value: &'a str,
+}
 
 /// The options that all have, each with a value.
 const COMMON: &[&str] = &["user", "strict", "kex", "cipher", "mac"];
@@ -39,139 +56,189 @@ const KEX: &str = "curve25519-sha256,curve25519-sha256@libssh.org,diffie-hellman
 /// The cipher where no word names others.
 const CIPHER: &str = "chacha20-poly1305@openssh.com";
 
-/// The ciphers of a side that is willing to be strict: all that the suite has.
+/// All ciphers that the suite has.
 const CIPHERS: &str = "chacha20-poly1305@openssh.com,aes256-gcm@openssh.com";
 
 /// MACs that peers list: the ciphers need none, but each side has to choose one.
 const MAC: &str =
     "hmac-sha2-256-etm@openssh.com,hmac-sha2-512-etm@openssh.com,hmac-sha2-256,hmac-sha2-512,hmac-sha1";
 
-/// The words by the form that they have.
-pub(crate) fn matches_of(alloc: Global, words: &[String]) -> Result<ArgMatches<'_>, Fault> {
-    match command(alloc)?.try_get_matches_from(words) {
-        Ok(matches) => Ok(matches),
-        Err(error) if error.kind() == ErrorKind::OutOfMemory => Err(Fault::Memory),
-        Err(_) => Err(Fault::Words),
+/// What the words ask for, or the first word that is refused.
+pub(crate) fn read_words<'a>(
+    alloc: Global,
+    words: &'a [String],
+) -> Result<Asked<'a>, WordFault<'a>> {
+    let Some((first, rest)) = words.split_first() else {
+        return Ok(Asked::Nothing);
+    };
+    if is_help(first) {
+        return Ok(Asked::Usage);
+    }
+    let Some(job) = job_of(first) else {
+        return Err(WordFault::Job(first));
+    };
+    if rest.iter().any(|word| is_help(word)) {
+        return Ok(Asked::Usage);
+    }
+    let mut given = Vec::new(alloc);
+    collect(job, rest, &mut given)?;
+    Ok(Asked::Work(settings_of(job, &given)?))
+}
+
+/// Whether the word asks for the usage.
+fn is_help(word: &str) -> bool {
+    word == "--help" || word == "-h"
+}
+
+/// The job that a word names.
+fn job_of(word: &str) -> Option<Job> {
+    match word {
+        "client" => Some(Job::Client),
+        "server" => Some(Job::Server),
+        "probe" => Some(Job::Probe),
+        _ => None,
     }
 }
 
-/// The form of the words.
-fn command<'a>(alloc: Global) -> Result<Command<'a>, AllocError> {
-    let program = Command::new(alloc, "sshauth")
-        .no_binary_name(true)
-        .disable_help_subcommand(true)
-        .disable_help_flag(true)
-        .disable_version_flag(true)
-        .subcommand_required(true);
-    let program = with_side(alloc, program, "client", CLIENT)?;
-    let program = with_side(alloc, program, "server", SERVER)?;
-    with_side(alloc, program, "probe", PROBE)
-}
-
-/// The form with one side more.
-fn with_side<'a>(
-    alloc: Global,
-    program: Command<'a>,
-    name: &'a str,
-    own: &[&'a str],
-) -> Result<Command<'a>, AllocError> {
-    match side_of(alloc, name, own) {
-        Ok(side) => program.subcommand(side),
-        Err(fault) => {
-            drop(program);
-            Err(fault)
+/// Collects the options of a job, each with its value: the next word, or what stands after `=`.
+fn collect<'a>(
+    job: Job,
+    words: &'a [String],
+    given: &mut Vec<Given<'a>>,
+) -> Result<(), WordFault<'a>> {
+    let mut rest = words;
+    for _ in 0..usize::MAX {
+        let Some((word, after)) = rest.split_first() else {
+            break;
+        };
+        let Some(name) = word.strip_prefix("--") else {
+            return Err(WordFault::Unknown { job, word });
+        };
+        match name.split_once('=') {
+            Some((option, value)) => {
+                put(job, word, Given { option, value }, given)?;
+                rest = after;
+            }
+            None => {
+                let (value, others) = value_in(job, word, name, after)?;
+                let option = name;
+                put(job, word, Given { option, value }, given)?;
+                rest = others;
+            }
         }
     }
+    Ok(())
 }
 
-/// The form of the words of one side.
-fn side_of<'a>(alloc: Global, name: &'a str, own: &[&'a str]) -> Result<Command<'a>, AllocError> {
-    let side = Command::new(alloc, name).disable_help_flag(true);
-    let side = with_options(alloc, side, COMMON)?;
-    with_options(alloc, side, own)
-}
-
-/// The form with these options more, each with a value.
-fn with_options<'a>(
-    alloc: Global,
-    side: Command<'a>,
-    names: &[&'a str],
-) -> Result<Command<'a>, AllocError> {
-    let mut side = side;
-    for name in names {
-        let option = Arg::new(alloc, *name).long(*name).action(ArgAction::Set);
-        side = side.arg(option)?;
+/// The value that follows the option, and the words after it. An option is no value.
+fn value_in<'a>(
+    job: Job,
+    word: &'a str,
+    name: &str,
+    after: &'a [String],
+) -> Result<(&'a str, &'a [String]), WordFault<'a>> {
+    if !is_option(job, name) {
+        return Err(WordFault::Unknown { job, word });
     }
-    Ok(side)
-}
-
-/// What the words say.
-pub(crate) fn settings_of<'a>(matches: &ArgMatches<'a>) -> Result<Settings<'a>, Fault> {
-    match matches.subcommand() {
-        Some(("client", found)) => settings_in(Job::Client, found),
-        Some(("server", found)) => settings_in(Job::Server, found),
-        Some(("probe", found)) => settings_in(Job::Probe, found),
-        _ => Err(Fault::Words),
+    match after.split_first() {
+        Some((value, others)) if !value.starts_with("--") => Ok((value, others)),
+        _ => Err(WordFault::NoValue(word)),
     }
 }
 
-/// What the words of one side say. An option that it doesn't have has no value.
-fn settings_in<'a>(role: Job, found: &ArgMatches<'a>) -> Result<Settings<'a>, Fault> {
-    let Some(user) = user_of(role, found.get_str("user")) else {
-        return Err(Fault::Words);
+/// Puts an option that the job has, and that didn't stand before.
+fn put<'a>(
+    job: Job,
+    word: &'a str,
+    one: Given<'a>,
+    given: &mut Vec<Given<'a>>,
+) -> Result<(), WordFault<'a>> {
+    if !is_option(job, one.option) {
+        return Err(WordFault::Unknown { job, word });
+    }
+    if value_of(given, one.option).is_some() {
+        return Err(WordFault::Twice(one.option));
+    }
+    given.push(one).map_err(|_| WordFault::Memory)
+}
+
+/// Whether the job has this option.
+fn is_option(job: Job, name: &str) -> bool {
+    let own = match job {
+        Job::Client => CLIENT,
+        Job::Server => SERVER,
+        Job::Probe => PROBE,
     };
-    let tries = tries_of(found.get_str("tries"))?;
-    let strict = flag_of(found.get_str("strict"), true)?;
-    let guess = flag_of(found.get_str("guess"), false)?;
-    let kex = known(found.get_str("kex").unwrap_or(KEX), KEX)?;
-    let cipher = ciphers_of(found)?;
+    COMMON.iter().any(|option| *option == name) || own.iter().any(|option| *option == name)
+}
+
+/// The value of an option, if it was given.
+fn value_of<'a>(given: &[Given<'a>], option: &str) -> Option<&'a str> {
+    for one in given {
+        if one.option == option {
+            return Some(one.value);
+        }
+    }
+    None
+}
+
+/// What the options say. One that the job doesn't have has no value.
+fn settings_of<'a>(job: Job, given: &[Given<'a>]) -> Result<Settings<'a>, WordFault<'a>> {
+    needs(job, given)?;
+    let tries = tries_of(value_of(given, "tries"))?;
+    let strict = flag_of("strict", value_of(given, "strict"), true)?;
+    let guess = flag_of("guess", value_of(given, "guess"), false)?;
+    let kex = known("kex", value_of(given, "kex").unwrap_or(KEX), KEX)?;
+    let cipher = known(
+        "cipher",
+        value_of(given, "cipher").unwrap_or(CIPHER),
+        CIPHERS,
+    )?;
+    let exec = short("exec", value_of(given, "exec"))?;
     Ok(Settings {
-        role,
-        user,
-        identity: found.get_str("identity"),
-        password_file: found.get_str("password-file"),
-        known_hosts: found.get_str("known-hosts"),
-        host: found.get_str("host"),
-        host_key: found.get_str("host-key"),
-        authorized_keys: found.get_str("authorized-keys"),
-        banner: found.get_str("banner"),
-        methods: found.get_str("methods").unwrap_or("publickey,password"),
-        required: found.get_str("required"),
+        role: job,
+        user: value_of(given, "user").unwrap_or("nobody"),
+        identity: value_of(given, "identity"),
+        password_file: value_of(given, "password-file"),
+        known_hosts: value_of(given, "known-hosts"),
+        host: value_of(given, "host"),
+        host_key: value_of(given, "host-key"),
+        authorized_keys: value_of(given, "authorized-keys"),
+        banner: value_of(given, "banner"),
+        methods: value_of(given, "methods").unwrap_or("publickey,password"),
+        required: value_of(given, "required"),
         tries,
         strict,
         guess,
         kex,
         cipher,
-        mac: found.get_str("mac").unwrap_or(MAC),
-        exec: found.get_str("exec"),
-        report: found.get_str("report"),
+        mac: value_of(given, "mac").unwrap_or(MAC),
+        exec,
+        report: value_of(given, "report"),
     })
 }
 
-/// The user, whom a client and a server have to name.
-fn user_of(role: Job, word: Option<&str>) -> Option<&str> {
-    match role {
-        Job::Client | Job::Server => word,
-        Job::Probe => Some(word.unwrap_or("nobody")),
+/// Refuses words without an option that the job needs.
+fn needs<'a>(job: Job, given: &[Given<'a>]) -> Result<(), WordFault<'a>> {
+    let options: &[&'static str] = match job {
+        Job::Client => &["user", "known-hosts", "host"],
+        Job::Server => &["user", "host-key"],
+        Job::Probe => &["host"],
+    };
+    for option in options {
+        if value_of(given, option).is_none() {
+            return Err(WordFault::Missing { job, option });
+        }
     }
-}
-
-/// The names of ciphers. Where strictness is refused, aes256-gcm@openssh.com doesn't work, so it isn't listed unless a word
-/// names it.
-fn ciphers_of<'a>(found: &ArgMatches<'a>) -> Result<&'a str, Fault> {
-    match found.get_str("cipher") {
-        Some(names) => known(names, CIPHERS),
-        None if flag_of(found.get_str("strict"), true)? => Ok(CIPHERS),
-        None => Ok(CIPHER),
-    }
+    Ok(())
 }
 
 /// These names, where each of them is one that the suite has. It passes over methods that it doesn't know, and the peer
 /// would choose one, and it takes the name of another cipher for its first.
-fn known<'a>(names: &'a str, all: &str) -> Result<&'a str, Fault> {
+fn known<'a>(option: &'a str, names: &'a str, all: &'a str) -> Result<&'a str, WordFault<'a>> {
     for name in names.split(',') {
         if !has(all, name) {
-            return Err(Fault::Words);
+            return Err(WordFault::Other { option, name, all });
         }
     }
     Ok(names)
@@ -187,20 +254,40 @@ fn has(all: &str, name: &str) -> bool {
     false
 }
 
+/// A command, where it isn't too long.
+fn short<'a>(option: &'a str, command: Option<&'a str>) -> Result<Option<&'a str>, WordFault<'a>> {
+    let limit = COMMAND_LIMIT;
+    match command {
+        Some(command) if command.len() > limit => Err(WordFault::Long { option, limit }),
+        _ => Ok(command),
+    }
+}
+
 /// How many requests a server grants: six where no word says it.
-fn tries_of(word: Option<&str>) -> Result<u32, Fault> {
+fn tries_of(word: Option<&str>) -> Result<u32, WordFault<'_>> {
     match word {
         None => Ok(6),
-        Some(word) => word.parse::<u32>().map_err(|_| Fault::Words),
+        Some(value) => value.parse::<u32>().map_err(|_| WordFault::NoNumber {
+            option: "tries",
+            value,
+        }),
     }
 }
 
 /// `yes` or `no`, or what holds where no word says it.
-fn flag_of(word: Option<&str>, otherwise: bool) -> Result<bool, Fault> {
+fn flag_of<'a>(
+    option: &'a str,
+    word: Option<&'a str>,
+    otherwise: bool,
+) -> Result<bool, WordFault<'a>> {
     match word {
         None => Ok(otherwise),
         Some("yes") => Ok(true),
         Some("no") => Ok(false),
-        Some(_) => Err(Fault::Words),
+        Some(name) => Err(WordFault::Other {
+            option,
+            name,
+            all: "yes,no",
+        }),
     }
 }

@@ -1,6 +1,6 @@
 -- What is known after a payload, by its number.
 
-use Rattle.std.proofs.Common.{◌≡◌, ◌≢◌, ℕ, ◌==◌, false, List, Ok, refl}
+use Rattle.std.proofs.Common.{◌≡◌, ◌≢◌, ℕ, ◌==◌, false, List, Ok, refl, ap, ◌∙◌}
 use Rattle.std.proofs.lemmas.Bool.{ne_eqb}
 use Rattle.sshwire.specs.declared.share_form.ShareForm.TheVariants.{Mpint}
 use Rattle.sshmsg.specs.MessageData.{MethodData, UserauthRequest}
@@ -8,27 +8,38 @@ use Rattle.sshmsg.specs.Messages.{message_in}
 use Rattle.sshmsg.specs.Numbers.{kind}
 use Rattle.sshpacket.specs.Suite.{SuiteData}
 use Rattle.sshcore.specs.Authenticating.{confirmed_attempt, counted_request, failed_attempt, tried_key}
-use Rattle.sshcore.specs.Brings.{carried_after, received_one}
+use Rattle.sshcore.specs.Brings.{carried_after, received_counted, received_newkeys, received_one}
 use Rattle.sshcore.specs.StateData.{Carried}
 use Rattle.sshcore.specs.Known.{Known}
 use Rattle.sshcore.specs.EndpointParts.{ConfigData, DecisionsData}
 use Rattle.sshcore.specs.Plan.{listed_in}
 use Rattle.sshcore.specs.Requests.{is_successful}
 use Rattle.sshcore.specs.Standing.{after_payload}
+use Rattle.sshcore.specs.Table.{is_ignorable}
 use Rattle.sshcore.specs.Tries.{successful_key_in, tried_in, tried_with}
 
 module _ (m : SuiteData) (d : DecisionsData) (party : ConfigData) (known : Known) (payload : List ℕ) where
-  -- a payload that is neither a request nor an answer to one changes nothing
-  pub after_received : kind payload ≢ 50 → kind payload ≢ 51 → kind payload ≢ 60 → after_payload m d party known payload ≡ received_one known
-  after_received request failure confirmation =
+  -- a payload that is neither NEWKEYS nor a request nor an answer to one counts, if it says nothing
+  pub after_counted : kind payload ≢ 21 → kind payload ≢ 50 → kind payload ≢ 51 → kind payload ≢ 60 → after_payload m d party known payload ≡ received_counted known payload
+  after_counted newkeys request failure confirmation =
+      let k : (kind payload == 21) ≡ false = ne_eqb (kind payload) 21 newkeys in
       let r : (kind payload == 50) ≡ false = ne_eqb (kind payload) 50 request in
       let f : (kind payload == 51) ≡ false = ne_eqb (kind payload) 51 failure in
       let c : (kind payload == 60) ≡ false = ne_eqb (kind payload) 60 confirmation in
-      rw (r, f, c) refl
+      rw (k, r, f, c) refl
 
-  -- the same, by the number that it has
-  pub received_number : (n : ℕ) → kind payload ≡ n → n ≢ 50 → n ≢ 51 → n ≢ 60 → after_payload m d party known payload ≡ received_one known
-  received_number n is request failure confirmation = after_received (rw is request) (rw is failure) (rw is confirmation)
+  -- the same, by the number that it has; and one that says something changes nothing
+  pub counted_number : (n : ℕ) → kind payload ≡ n → n ≢ 21 → n ≢ 50 → n ≢ 51 → n ≢ 60 → after_payload m d party known payload ≡ received_counted known payload
+  counted_number n is newkeys request failure confirmation = after_counted (rw is newkeys) (rw is request) (rw is failure) (rw is confirmation)
+
+  pub received_number : (n : ℕ) → kind payload ≡ n → n ≢ 21 → n ≢ 50 → n ≢ 51 → n ≢ 60 → is_ignorable n ≡ false → after_payload m d party known payload ≡ received_one known
+  received_number n is newkeys request failure confirmation heeded =
+      let none : is_ignorable (kind payload) ≡ false = ap is_ignorable is ∙ heeded in
+      counted_number n is newkeys request failure confirmation ∙ rw none refl
+
+  -- from NEWKEYS on what says nothing counts
+  pub newkeys_after : kind payload ≡ 21 → after_payload m d party known payload ≡ received_newkeys party known
+  newkeys_after is = rw is refl
 
   -- a request counts, and may reach a method
   pub request_after : (user service : List ℕ) (method : MethodData) → kind payload ≡ 50 → message_in Mpint payload ≡ Ok (UserauthRequest user service method)

@@ -14,9 +14,9 @@ use Rattle.sshcore.specs.EndpointParts.{ConfigData, DecisionsData}
 use Rattle.sshcore.specs.Requests.{completes, is_last_try, is_successful, method_reply, more_reply, request_reply, tried_reply, would_do}
 
 -- what tells that a request ends nothing: a FAILURE, or a PK_OK to a query whose key would do
-pub data IsRefusal (d : DecisionsData) (party : ConfigData) (known : Known) (user service : List ℕ) (x : MessageData) : Type 0 where
-  Refused : (partial : Bool) → x ≡ UserauthFailure party.methods partial → IsRefusal d party known user service x
-  Confirmed : (algorithm key : List ℕ) → would_do d party known user service algorithm key ≡ true → x ≡ UserauthPkOk algorithm key → IsRefusal d party known user service x
+pub data IsRefusal (m : SuiteData) (d : DecisionsData) (party : ConfigData) (known : Known) (user service : List ℕ) (x : MessageData) : Type 0 where
+  Refused : (partial : Bool) → x ≡ UserauthFailure party.methods partial → IsRefusal m d party known user service x
+  Confirmed : (algorithm key : List ℕ) → would_do m d party known user service algorithm key ≡ true → x ≡ UserauthPkOk algorithm key → IsRefusal m d party known user service x
 
 -- For a service that the server doesn't have; successful, so that all required methods are reached; the last that is granted;
 -- or one more, and it is told so.
@@ -25,15 +25,15 @@ pub data IsAnswered (m : SuiteData) (d : DecisionsData) (party : ConfigData) (kn
   Succeeds : is_in party.services service ≡ true → is_successful m d party known user service method ≡ true → completes party known user service method true ≡ true
       → r ≡ record { answers = written_message UserauthSuccess ∷ []; end = Authenticated (agreed_by known user service) } → IsAnswered m d party known user service method r
   Last : is_last_try party known ≡ true → r ≡ fails fault.TooManyTries → IsAnswered m d party known user service method r
-  More : (x : MessageData) → IsRefusal d party known user service x → is_last_try party known ≡ false → r ≡ goes (written_message x ∷ []) → IsAnswered m d party known user service method r
+  More : (x : MessageData) → IsRefusal m d party known user service x → is_last_try party known ≡ false → r ≡ goes (written_message x ∷ []) → IsAnswered m d party known user service method r
 
 module _ (m : SuiteData) (d : DecisionsData) (party : ConfigData) (known : Known) (user service : List ℕ) (method : MethodData) where
-  by_more : (x : MessageData) → IsRefusal d party known user service x → (last : Bool) → is_last_try party known ≡ last
+  by_more : (x : MessageData) → IsRefusal m d party known user service x → (last : Bool) → is_last_try party known ≡ last
       → IsAnswered m d party known user service method (cond last (fails fault.TooManyTries) (goes (written_message x ∷ [])))
   by_more x is true e = Last e refl
   by_more x is false e = More x is e refl
 
-  by_query : (algorithm key : List ℕ) (would : Bool) → would_do d party known user service algorithm key ≡ would
+  by_query : (algorithm key : List ℕ) (would : Bool) → would_do m d party known user service algorithm key ≡ would
       → IsAnswered m d party known user service method (more_reply party known (cond would (UserauthPkOk algorithm key) (UserauthFailure party.methods false)))
   by_query algorithm key true e = by_more (UserauthPkOk algorithm key) (Confirmed algorithm key e refl) (is_last_try party known) refl
   by_query algorithm key false e = by_more (UserauthFailure party.methods false) (Refused false refl) (is_last_try party known) refl
@@ -55,7 +55,7 @@ module _ (m : SuiteData) (d : DecisionsData) (party : ConfigData) (known : Known
   each_method has (PasswordChange old new) = by_method m d party known user service (PasswordChange old new) has
   each_method has (PublicKey algorithm key signature) = by_method m d party known user service (PublicKey algorithm key signature) has
   each_method has (PublicKeyQuery algorithm key) =
-      by_query m d party known user service (PublicKeyQuery algorithm key) algorithm key (would_do d party known user service algorithm key) refl
+      by_query m d party known user service (PublicKeyQuery algorithm key) algorithm key (would_do m d party known user service algorithm key) refl
   each_method has (OtherMethod name fields) = by_method m d party known user service (OtherMethod name fields) has
 
   pub answered : (method : MethodData) → IsAnswered m d party known user service method (request_reply m d party known user service method)

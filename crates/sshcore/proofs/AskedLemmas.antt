@@ -1,9 +1,9 @@
 -- What a packet asks, by what the code has found out.
 
-use Rattle.std.proofs.Common.{◌≡◌, ◌≢◌, ℕ, List, Bor, Bool, true, Option, None, Some, is_some, option_map, Result, Ok, Err, refl, sym, ap, subst, ◌∙◌}
+use Rattle.std.proofs.Common.{◌≡◌, ◌≢◌, ℕ, List, Bor, Option, None, Some, option_map, Result, Ok, Err, refl, sym, ap, ◌∙◌}
 use Rattle.sshmsg.proofs.NumberLemmas.{kind_tells}
 use Rattle.sshmsg.specs.declared.fault.MsgFault.{MsgFault}
-use Rattle.sshmsg.specs.MessageData.{KexEcdhReply, KexdhReply, MessageData, MethodData, NoMethod, OtherMethod, Password, PasswordChange, PublicKey, PublicKeyQuery, UserauthRequest}
+use Rattle.sshmsg.specs.MessageData.{KexEcdhReply, KexdhReply, MessageData, MethodData, UserauthRequest}
 use Rattle.sshmsg.specs.Messages.{message_in}
 use Rattle.sshmsg.specs.Numbers.{kind, number_of}
 use Rattle.sshneg.specs.declared.side.Side.{Side}
@@ -11,18 +11,9 @@ use Rattle.sshneg.specs.declared.side.Side.TheVariants.{Client}
 use Rattle.sshpacket.specs.Suite.{SuiteData}
 use Rattle.sshcore.specs.declared.table.Line.{Line}
 use Rattle.sshcore.specs.declared.table.Line.TheVariants as line
-use Rattle.sshcore.specs.Brings.{Brings, Works}
-use Rattle.sshcore.specs.EndpointParts.{ConfigData, ProofData, Setup}
+use Rattle.sshcore.specs.EndpointParts.{ConfigData}
 use Rattle.sshcore.specs.Known.{Known}
-use Rattle.sshcore.specs.Questions.{HostKeyQuestion, QuestionData, always, line_question, message_question, method_question, proof_question, request_question}
-use Rattle.sshcore.specs.Plan.{is_waiting}
-use Rattle.sshcore.specs.Replies.{read_reply}
-use Rattle.sshcore.specs.Requests.{is_successful}
-use Rattle.sshcore.specs.StateData.{StateData}
-use Rattle.sshcore.specs.Table.{line_by}
-use Rattle.sshcore.specs.Tries.{is_decided, proof_in}
-use Rattle.sshcore.specs.Work.{work}
-use Rattle.sshcore.proofs.BringsLemmas.{reads_brings}
+use Rattle.sshcore.specs.Questions.{HostKeyQuestion, QuestionData, line_question, message_question, method_question, request_question}
 use Rattle.sshcore.proofs.RequestLemmas.{FindsService, had, missed}
 
 module _ (m : SuiteData) (role : Side) (party : ConfigData) (known : Known) where
@@ -61,22 +52,6 @@ module _ (m : SuiteData) (role : Side) (party : ConfigData) (known : Known) wher
   unfolding line_question
   line_on l payload is = rw is refl
 
-  -- so what asks is read
-  pub line_asks : (l : Line) (payload : List ℕ) → is_some (line_question m role party known l payload) ≡ true → l ≡ line.Reads
-  unfolding line_question
-  line_asks line.Reads payload asks = refl
-  line_asks line.Drops payload asks = absurd cc
-  line_asks line.Deviates payload asks = absurd cc
-  line_asks line.Unknown payload asks = absurd cc
-  line_asks line.Unexpected payload asks = absurd cc
-
-  -- as this message
-  pub message_asks : (l : Line) (payload : List ℕ) (r : Result MessageData MsgFault) → message_in known.shares payload ≡ r → is_some (line_question m role party known l payload) ≡ true
-      → is_some (message_question m role party known r) ≡ true
-  message_asks l payload r e asks =
-      ap (λ (x : Result MessageData MsgFault). is_some (message_question m role party known x)) (sym e)
-      ∙ (ap is_some (line_on l payload (line_asks l payload asks)) ∙ asks)
-
   -- a client asks for the host key that it has received
   module _ (c : MessageData) (client : role ≡ Client) where
     pub kexdh_asks : (host_key f signature : List ℕ) → c ≡ KexdhReply host_key f signature
@@ -96,32 +71,6 @@ module _ (m : SuiteData) (party : ConfigData) (known : Known) (user service : Li
   pub asks_here : (own : Bor (List ℕ)) → found ≡ Some own → method_question m party known user own.now method ≡ request_question m party known user service method
   unfolding request_question
   asks_here own is = let both = had _ service found own e is in rw (both.0, both.1) refl
-
--- a packet that is read as this message brings what it does
-pub read_brings : (setup : Setup) (old new : StateData) (packet : ℕ) (payload before after : List ℕ)
-    → line_by setup.role old.phase old.known.strict old.guess (is_waiting old.known.left) (kind payload) ≡ line.Reads
-    → (c : MessageData) → message_in old.known.shares payload ≡ Ok c → Works setup old new payload before after (work setup old.known c)
-    → Brings setup old new packet payload before after
-read_brings setup old new packet payload before after reads c e works =
-    reads_brings setup old new packet payload before after reads
-    (subst (λ (r : Result MessageData MsgFault). Works setup old new payload before after (read_reply setup old.known (kind payload) r)) (sym e) works)
-
--- what was asked, and answered so, is so successful
-proof_given : (number : ℕ) (user service : List ℕ) (o : Option ProofData) (allowed : Bool) → is_some (proof_question number user service o) ≡ true
-    → is_decided (always allowed) number user service o ≡ allowed
-proof_given number user service None allowed asks = absurd cc
-proof_given number user service (Some proof) allowed asks = refl
-
-pub given_successful : (m : SuiteData) (party : ConfigData) (known : Known) (user service : List ℕ) (allowed : Bool) (method : MethodData)
-    → ((algorithm key : List ℕ) → method ≡ PublicKeyQuery algorithm key → ⊥) → is_some (method_question m party known user service method) ≡ true
-    → is_successful m (always allowed) party known user service method ≡ allowed
-given_successful m party known user service allowed NoMethod none asks = proof_given known.request user service (proof_in m party known.session user service NoMethod) allowed asks
-given_successful m party known user service allowed (Password password) none asks = proof_given known.request user service (proof_in m party known.session user service (Password password)) allowed asks
-given_successful m party known user service allowed (PasswordChange old new) none asks = proof_given known.request user service (proof_in m party known.session user service (PasswordChange old new)) allowed asks
-given_successful m party known user service allowed (PublicKey algorithm key signature) none asks =
-    proof_given known.request user service (proof_in m party known.session user service (PublicKey algorithm key signature)) allowed asks
-given_successful m party known user service allowed (PublicKeyQuery algorithm key) none asks = absurd (none algorithm key refl)
-given_successful m party known user service allowed (OtherMethod name fields) none asks = proof_given known.request user service (proof_in m party known.session user service (OtherMethod name fields)) allowed asks
 
 -- what is made of a value, if there is one
 pub none_of : {A B : Type 0} (f : A → B) (o : Option A) (q : Option B) → option_map f o ≡ q → o ≡ None → ◌≡◌ {A = Option B} None q

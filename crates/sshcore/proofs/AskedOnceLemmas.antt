@@ -5,7 +5,6 @@ use Rattle.std.specs.Prelude.{◌&&◌, codes, length, nat_le}
 use Rattle.std.specs.List.{AllByRecursion}
 use Rattle.std.proofs.lemmas.Bool.{eq-eqb, true≢false}
 use Rattle.std.proofs.lemmas.List.{append-nil}
-use Rattle.sshwire.specs.TypeReadings.{is_name}
 use Rattle.sshwire.specs.declared.share_form.ShareForm.{ShareForm}
 use Rattle.sshmsg.specs.declared.fault.MsgFault.{MsgFault}
 use Rattle.sshmsg.specs.MessageData.{KexEcdhReply, KexInitData, KexdhReply, MessageData, MethodData, PublicKeyQuery, UserauthRequest}
@@ -29,14 +28,14 @@ use Rattle.sshcore.specs.Exchange.{host_key_by}
 use Rattle.sshcore.specs.Known.{Known, known_at, waits_at}
 use Rattle.sshcore.specs.Phases.{leaving, phase_at, phase_by}
 use Rattle.sshcore.specs.Plan.{is_waiting}
-use Rattle.sshcore.specs.Questions.{HostKeyQuestion, QuestionData, UserQuestion, line_question, message_question, method_question, proof_question, query_question, question_at, request_question}
+use Rattle.sshcore.specs.Questions.{HostKeyQuestion, QuestionData, UserQuestion, line_question, message_question, method_question, claim_question, query_question, question_at, request_question}
 use Rattle.sshcore.specs.Reached.{ReachedData}
 use Rattle.sshcore.specs.Replies.{line_at}
 use Rattle.sshcore.specs.Requests.{is_last_try}
 use Rattle.sshcore.specs.Standing.{Sits}
 use Rattle.sshcore.specs.StateData.{StateData}
 use Rattle.sshcore.specs.Table.{line_by}
-use Rattle.sshcore.specs.Tries.{proof_in}
+use Rattle.sshcore.specs.Tries.{claimed_proof, is_supported}
 use Rattle.sshcore.proofs.AnsweredLemmas.{Rises, asked_once}
 use Rattle.sshcore.proofs.PhaseLemmas.{kept_free, stood_push, tied_phase}
 use Rattle.sshcore.proofs.PlanLemmas.{count_push}
@@ -60,26 +59,26 @@ data IsAsked (request n : ℕ) (q : QuestionData) : Type 0 where
 numbered : (number : ℕ) (user service : List ℕ) (proof : ProofData) (q : QuestionData) → Some (UserQuestion number user service proof) ≡ Some q → IsNumbered number q
 numbered number user service proof q e = let same : UserQuestion number user service proof ≡ q = cc in subst (IsNumbered number) same refl
 
-proof_asks : (number : ℕ) (user service : List ℕ) (proof : Option ProofData) (q : QuestionData) → proof_question number user service proof ≡ Some q → IsNumbered number q
-proof_asks number user service None q e = absurd cc
-proof_asks number user service (Some proof) q e = numbered number user service proof q e
+claim_asks : (number : ℕ) (user service : List ℕ) (proof : Option ProofData) (q : QuestionData) → claim_question number user service proof ≡ Some q → IsNumbered number q
+claim_asks number user service None q e = absurd cc
+claim_asks number user service (Some proof) q e = numbered number user service proof q e
 
 module _ (m : SuiteData) (role : Side) (party : ConfigData) where
-  query_asks : (known : Known) (user service algorithm key : List ℕ) (q : QuestionData) → query_question party known user service algorithm key ≡ Some q → IsNumbered known.request q
+  query_asks : (known : Known) (user service algorithm key : List ℕ) (q : QuestionData) → query_question m party known user service algorithm key ≡ Some q → IsNumbered known.request q
   query_asks known user service algorithm key q e = by_last (is_last_try party known) e
     where
       by_key : (b : Bool) → cond b (Some (UserQuestion known.request user service (KeyProof algorithm key))) None ≡ Some q → IsNumbered known.request q
       by_key true is = numbered known.request user service (KeyProof algorithm key) q is
       by_key false is = absurd cc
 
-      by_last : (b : Bool) → cond b None (cond (is_in party.methods (codes "publickey") && (is_name algorithm && nat_le (length key) BLOB_LIMIT))
+      by_last : (b : Bool) → cond b None (cond (is_in party.methods (codes "publickey") && (is_supported m algorithm && nat_le (length key) BLOB_LIMIT))
           (Some (UserQuestion known.request user service (KeyProof algorithm key))) None) ≡ Some q → IsNumbered known.request q
       by_last true is = absurd cc
-      by_last false is = by_key (is_in party.methods (codes "publickey") && (is_name algorithm && nat_le (length key) BLOB_LIMIT)) is
+      by_last false is = by_key (is_in party.methods (codes "publickey") && (is_supported m algorithm && nat_le (length key) BLOB_LIMIT)) is
 
   method_asks : (known : Known) (user service : List ℕ) (method : MethodData) (q : QuestionData) → method_question m party known user service method ≡ Some q → IsNumbered known.request q
   method_asks known user service (PublicKeyQuery algorithm key) q e = query_asks known user service algorithm key q e
-  method_asks known user service method q e = proof_asks known.request user service (proof_in m party known.session user service method) q e
+  method_asks known user service method q e = claim_asks known.request user service (claimed_proof m party method) q e
 
   request_asks : (known : Known) (user service : List ℕ) (method : MethodData) (q : QuestionData) → request_question m party known user service method ≡ Some q → IsNumbered known.request q
   unfolding request_question

@@ -111,18 +111,18 @@ module _ (below : Below) (streams : Streams) (m : SuiteData) (role : Side) (part
 -- A packet that waited is answered.
 module _ (below : Below) (streams : Streams) (m : SuiteData) (role : Side) (party : ConfigData) (allowed : Bool) (w : WaitingData) (old new last : StateData) (before after : List ℕ) (is : old.end ≡ Open) where
   answer_packets : (p q : PacketReader) → question_at m role party old w.payload ≡ Some w.question
-      → (HasForm m old → (packet : ℕ) → Brings (setup_with m (always allowed) role party) old new packet w.payload before after)
+      → (HasForm m old → Brings (setup_with m (always allowed) role party) old new w.packet w.payload before after)
       → Turns new last p q → AnswerSteps m role party allowed w (input.Packets p) old (input.Packets q) last before after
   answer_packets p q asks brings turns d agrees i taken r =
       let same : p ≡ r.after = cc in
       subst (λ (x : Input). Steps (setup_with m d role party) x old (input.Packets q) last taken before after) (sym r.was)
       (subst (λ (l : List ℕ). Steps (setup_with m d role party) (input.Packets r.before) old (input.Packets q) last l before after) (take-length taken)
       (unit_steps below streams m role party (always allowed) old new last before after is r.before p q taken w.payload (length taken) w.packet (omega arith) r.reads r.number
-      (ap (λ (x : PacketReader). packet_reader_data x) same ∙ r.left) (λ form. brings form w.packet) turns d
+      (ap (λ (x : PacketReader). packet_reader_data x) same ∙ r.left) brings turns d
       (alike_asked d allowed (question_at m role party old w.payload) w.question asks agrees)))
 
   pub answer_steps : (j k : Input) → question_at m role party old w.payload ≡ Some w.question
-      → (HasForm m old → (packet : ℕ) → Brings (setup_with m (always allowed) role party) old new packet w.payload before after)
+      → (HasForm m old → Brings (setup_with m (always allowed) role party) old new w.packet w.payload before after)
       → IsTurned new last j k → AnswerSteps m role party allowed w j old k last before after
   answer_steps (input.Packets p) (input.Packets q) asks brings turned = answer_packets p q asks brings turned
   answer_steps (input.Packets p) (input.Lines q) asks brings turned = absurd turned

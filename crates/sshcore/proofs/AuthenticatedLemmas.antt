@@ -6,7 +6,7 @@ use Rattle.std.specs.Str.{bytes_eq}
 use Rattle.std.proofs.lemmas.Bool.{not-true, true≢false}
 use Rattle.sshwire.specs.declared.share_form.ShareForm.TheVariants.{Mpint}
 use Rattle.sshmsg.specs.declared.fault.MsgFault.{MsgFault}
-use Rattle.sshmsg.specs.MessageData.{Disconnect, KexEcdhInit, KexEcdhReply, KexInit, KexInitData, KexdhInit, KexdhReply, MessageData, MethodData, NewKeys, ServiceAccept, ServiceRequest, UserauthFailure, UserauthPkOk, UserauthRequest, UserauthSuccess, method_name}
+use Rattle.sshmsg.specs.MessageData.{Disconnect, KexEcdhInit, KexEcdhReply, KexInit, KexInitData, KexdhInit, KexdhReply, MessageData, MethodData, NewKeys, ServiceAccept, ServiceRequest, Unimplemented, UserauthFailure, UserauthPkOk, UserauthRequest, UserauthSuccess, method_name}
 use Rattle.sshmsg.specs.Messages.{message_in}
 use Rattle.sshmsg.specs.Numbers.{kind}
 use Rattle.sshmsg.specs.Written.{written_message}
@@ -44,6 +44,7 @@ use Rattle.sshcore.specs.Tries.{is_successful_at, session_known, tried_at, tried
 use Rattle.sshcore.specs.Standing.{Tied}
 use Rattle.sshcore.specs.Table.{line_by}
 use Rattle.sshcore.specs.Work.{answered_by, banner_by, chosen_reply, init_reply, kexinit_reply, reply_reply, signed_by, userauth, work}
+use Rattle.sshcore.proofs.IgnoredLimitLemmas.{by_allowance}
 use Rattle.sshcore.proofs.AnswerLemmas.{Elsewhere, IsAnswered, Last, More, Succeeds, answered}
 use Rattle.sshcore.proofs.Below.{Below}
 use Rattle.sshcore.proofs.PhaseLemmas.{kept_free, tied_leaves, tied_phase}
@@ -238,10 +239,14 @@ module _ (below : Below) (setup : Setup) where
   by_line : (p : Phase) (strict guess waits : Bool) (known : Known) (tried : List Tried) (packet : ℕ) (payload : List ℕ) (l : Line) → known.reached ≡ reached_after nothing_reached tried → line_by setup.role p strict guess waits (kind payload) ≡ l → (a : AgreedData)
       → (line_reply setup known packet l payload).end ≡ Authenticated a → Agrees setup p guess known tried payload a
   unfolding line_reply
-  by_line p strict guess waits known tried packet payload line.Reads kept is a end = by_read p strict guess waits known tried payload kept is a (message_in known.shares payload) refl end
+  by_line p strict guess waits known tried packet payload line.Reads kept is a end =
+      by_allowance (λ (r : Reply). r.end ≡ Authenticated a → Agrees setup p guess known tried payload a) known payload (read_reply setup known (kind payload) (message_in known.shares payload))
+      (λ over. absurd cc) (λ within. by_read p strict guess waits known tried payload kept is a (message_in known.shares payload) refl within) end
   by_line p strict guess waits known tried packet payload line.Drops kept is a end = absurd cc
   by_line p strict guess waits known tried packet payload line.Deviates kept is a end = absurd cc
-  by_line p strict guess waits known tried packet payload line.Unknown kept is a end = absurd cc
+  by_line p strict guess waits known tried packet payload line.Unknown kept is a end =
+      by_allowance (λ (r : Reply). r.end ≡ Authenticated a → Agrees setup p guess known tried payload a) known payload (goes (written_message (Unimplemented packet) ∷ []))
+      (λ over. absurd cc) (λ within. absurd cc) end
   by_line p strict guess waits known tried packet payload line.Unexpected kept is a end = absurd cc
 
   -- at an endpoint that stood open before

@@ -14,7 +14,8 @@ use Rattle.sshcore.specs.declared.end.Fault.TheVariants as fault
 use Rattle.sshcore.specs.declared.table.Line.{Line}
 use Rattle.sshcore.specs.declared.table.Line.TheVariants as line
 use Rattle.sshcore.specs.declared.table.Phase.{Phase}
-use Rattle.sshcore.specs.Brings.{Brings, Drops, Gives, Stays, Works, received_one}
+use Rattle.sshcore.specs.IgnoredLimit.{is_taken, overspends}
+use Rattle.sshcore.specs.Brings.{Brings, Drops, Gives, Stays, Works, received_counted, received_one}
 use Rattle.sshcore.specs.EndData.{Open, fails, goes}
 use Rattle.sshcore.specs.StateData.{StateData}
 use Rattle.sshcore.specs.EndpointParts.{Setup}
@@ -23,7 +24,7 @@ use Rattle.sshcore.specs.Phases.{leaving}
 use Rattle.sshcore.specs.Replies.{line_reply, read_reply}
 use Rattle.sshcore.specs.Standing.{LeavesNone}
 use Rattle.sshcore.specs.Table.{is_ignored, is_of_auth, is_of_method, is_ruled, is_unknown, line_by, takes_extensions}
-use Rattle.sshcore.proofs.AfterLemmas.{after_received, carried_stays}
+use Rattle.sshcore.proofs.AfterLemmas.{after_counted, carried_stays}
 use Rattle.sshcore.proofs.TableLemmas.{Closing, Dropped, Leaving, OffGuess, OffPhase, Sees, Staying, Useless, sees}
 use Rattle.sshcore.proofs.WorksLemmas.{failed_ends, silent}
 
@@ -86,16 +87,32 @@ module _ (role : Side) (p : Phase) (strict guess waits : Bool) (n : ℕ) where
     ])
   ]
 
--- no message of authentication is unknown
-not_unknown : (n : ℕ) → is_unknown n ≡ true → (n ≢ 50) × (n ≢ 51) × (n ≢ 60)
-not_unknown n e = (λ q. absurd (true≢false (sym e ∙ rw q refl)), λ q. absurd (true≢false (sym e ∙ rw q refl)), λ q. absurd (true≢false (sym e ∙ rw q refl)))
+-- what is taken and isn't too much is within the allowance
+pub taken_within : (l : Line) (over too_much : Bool) → is_taken l ≡ true → too_much ≡ (is_taken l && over) → too_much ≡ false → over ≡ false
+taken_within l over too_much taken e none = let same : (is_taken l && over) ≡ over = rw taken refl in sym same ∙ (sym e ∙ none)
+
+-- NEWKEYS isn't unknown, nor is a message of authentication
+record NotUnknown (n : ℕ) : Type 0 where
+  newkeys : n ≢ 21
+  request : n ≢ 50
+  failure : n ≢ 51
+  confirmation : n ≢ 60
+
+not_unknown : (n : ℕ) → is_unknown n ≡ true → NotUnknown n
+not_unknown n e = record {
+  newkeys = λ q. absurd (true≢false (sym e ∙ rw q refl));
+  request = λ q. absurd (true≢false (sym e ∙ rw q refl));
+  failure = λ q. absurd (true≢false (sym e ∙ rw q refl));
+  confirmation = λ q. absurd (true≢false (sym e ∙ rw q refl));
+}
 
 module _ (setup : Setup) (old new : StateData) (packet : ℕ) (payload before after : List ℕ) where
   pub reads_brings : line_by setup.role old.phase old.known.strict old.guess (is_waiting old.known.left) (kind payload) ≡ line.Reads
+      → overspends old.known.allowance payload ≡ false
       → Works setup old new payload before after (read_reply setup old.known (kind payload) (message_in old.known.shares payload))
       → Brings setup old new packet payload before after
   unfolding line_reply
-  reads_brings is works = rw is works
+  reads_brings is within works = rw (is, within) works
 
   -- it fails, so nothing goes on
   fails_works : (f : Fault) → ((strict : Bool) (next : KeysData) → Gives setup.suite setup.config.seed strict next old new before after (fails f)) → Works setup old new payload before after (fails f)
@@ -113,26 +130,39 @@ module _ (setup : Setup) (old new : StateData) (packet : ℕ) (payload before af
   unfolding line_reply
   unexpected_brings n same is gives = rw (is, ← same) (fails_works (fault.Unexpected n) gives)
 
-  pub unknown_brings : line_by setup.role old.phase old.known.strict old.guess (is_waiting old.known.left) (kind payload) ≡ line.Unknown
-      → ((strict : Bool) (next : KeysData) → Gives setup.suite setup.config.seed strict next old new before after (goes (written_message (Unimplemented packet) ∷ [])))
-      → new ≡ record old { known = received_one old.known; sending = new.sending }
+  -- more came that says nothing than is taken
+  pub overspends_brings : (l : Line) → line_by setup.role old.phase old.known.strict old.guess (is_waiting old.known.left) (kind payload) ≡ l
+      → (is_taken l && overspends old.known.allowance payload) ≡ true
+      → ((strict : Bool) (next : KeysData) → Gives setup.suite setup.config.seed strict next old new before after (fails fault.TooMuchIgnored))
       → Brings setup old new packet payload before after
   unfolding line_reply
-  unknown_brings is gives stays =
+  overspends_brings line.Reads is over gives = rw (is, over) (fails_works fault.TooMuchIgnored gives)
+  overspends_brings line.Unknown is over gives = rw (is, over) (fails_works fault.TooMuchIgnored gives)
+  overspends_brings line.Drops is over gives = absurd (true≢false (sym over))
+  overspends_brings line.Deviates is over gives = absurd (true≢false (sym over))
+  overspends_brings line.Unexpected is over gives = absurd (true≢false (sym over))
+
+  pub unknown_brings : line_by setup.role old.phase old.known.strict old.guess (is_waiting old.known.left) (kind payload) ≡ line.Unknown
+      → overspends old.known.allowance payload ≡ false
+      → ((strict : Bool) (next : KeysData) → Gives setup.suite setup.config.seed strict next old new before after (goes (written_message (Unimplemented packet) ∷ [])))
+      → new ≡ record old { known = received_counted old.known payload; sending = new.sending }
+      → Brings setup old new packet payload before after
+  unfolding line_reply
+  unknown_brings is within gives stays =
       let seen = unknown setup.role old.phase old.known.strict old.guess (is_waiting old.known.left) (kind payload) _ (sees setup.role old.phase old.known.strict (is_waiting old.known.left) (kind payload) old.guess) is in
       let none : old.guess ≡ false = seen.0 in
       let other = not_unknown (kind payload) (meaningless setup.role old.phase old.known.strict old.guess (is_waiting old.known.left) (kind payload) is) in
       let works : Works setup old new payload before after (goes (written_message (Unimplemented packet) ∷ [])) = record {
         gives = gives _ _;
         moves = λ goes_on. Stays none seen.1
-            (ap (λ (k : StateData). k.carried) stays ∙ sym (carried_stays setup.suite setup.decisions setup.config old.known payload old.carried other.0))
+            (ap (λ (k : StateData). k.carried) stays ∙ sym (carried_stays setup.suite setup.decisions setup.config old.known payload old.carried other.request))
             (record {
               phase_is = ap (λ (k : StateData). k.phase) stays;
               guess_is = ap (λ (k : StateData). k.guess) stays ∙ none;
-              known_is = ap (λ (k : StateData). k.known) stays ∙ sym (after_received setup.suite setup.decisions setup.config old.known payload other.0 other.1 other.2);
+              known_is = ap (λ (k : StateData). k.known) stays ∙ sym (after_counted setup.suite setup.decisions setup.config old.known payload other.newkeys other.request other.failure other.confirmation);
             });
       } in
-      rw is works
+      rw (is, within) works
 
 -- the packet of a wrong guess is dropped, and nothing is sent
 pub drops_brings : (setup : Setup) (old new : StateData) (packet : ℕ) (payload before : List ℕ)

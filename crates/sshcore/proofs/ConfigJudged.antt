@@ -168,13 +168,13 @@ host_keys_some_decided keys = rw (host_keys_mapped keys) (some_decided (λ (k : 
 host_keys_short_decided : (keys : List host_key_parts.HostKey) → Decides (host_keys_are_short keys) (IsShortList (key_algorithms (map host_key_data keys)))
 host_keys_short_decided keys = rw (host_keys_mapped keys) (short_decided (map (λ (k : host_key_parts.HostKey). string_bytes k.algorithm) keys))
 
--- of nine facts in a row, where the first six are one test
-three_more : {A B C D E F G H I : Type 0} (a b c d : Bool) → Decides a (A × (B × (C × (D × (E × (F × Unit {0})))))) → Decides b G → Decides c H → Decides d I
-    → Decides (a && (b && (c && d))) (A × (B × (C × (D × (E × (F × (G × (H × (I × Unit {0})))))))))
-three_more a b c d p q r t =
-    Decides-like (a && (b && (c && d))) (λ h. (h.0.0, (h.0.1.0, (h.0.1.1.0, (h.0.1.1.1.0, (h.0.1.1.1.1.0, (h.0.1.1.1.1.1.0, (h.1, (h.2.0, (h.2.1, tt))))))))))
-    (λ h. ((h.0, (h.1.0, (h.1.1.0, (h.1.1.1.0, (h.1.1.1.1.0, (h.1.1.1.1.1.0, tt)))))), h.1.1.1.1.1.1.0, (h.1.1.1.1.1.1.1.0, h.1.1.1.1.1.1.1.1.0)))
-    (three a b (c && d) p q (Decides-and c d r t))
+-- of ten facts in a row, where the first six are one test
+four_more : {A B C D E F G H I J : Type 0} (a b c d e : Bool) → Decides a (A × (B × (C × (D × (E × (F × Unit {0})))))) → Decides b G → Decides c H → Decides d I → Decides e J
+    → Decides (a && (b && (c && (d && e)))) (A × (B × (C × (D × (E × (F × (G × (H × (I × (J × Unit {0}))))))))))
+four_more a b c d e p q r t u =
+    Decides-like (a && (b && (c && (d && e)))) (λ h. (h.0.0, (h.0.1.0, (h.0.1.1.0, (h.0.1.1.1.0, (h.0.1.1.1.1.0, (h.0.1.1.1.1.1.0, (h.1, (h.2.0, (h.2.1.0, (h.2.1.1, tt)))))))))))
+    (λ h. ((h.0, (h.1.0, (h.1.1.0, (h.1.1.1.0, (h.1.1.1.1.0, (h.1.1.1.1.1.0, tt)))))), h.1.1.1.1.1.1.0, (h.1.1.1.1.1.1.1.0, (h.1.1.1.1.1.1.1.1.0, h.1.1.1.1.1.1.1.1.1.0))))
+    (three a b (c && (d && e)) p q (Decides-and c (d && e) r (Decides-and d e t u)))
 
 four : {A B C D : Type 0} (a b c d : Bool) → Decides a A → Decides b B → Decides c C → Decides d D → Decides (a && (b && (c && d))) (A × B × C × D)
 four a b c d p q r t =
@@ -225,15 +225,16 @@ pub server_decided : NameLaw → VersionLaw → (parts : ServerParts) (code : Co
 server_decided names versions parts fault.EmptyList =
     lists_some_decided parts.side (key_algorithms (map host_key_data parts.host_keys.items)) _ (host_keys_some_decided parts.host_keys.items)
 server_decided names versions parts fault.Name =
-    four _ _ _ _ (three_more _ _ _ _ (lists_named_decided names parts.side (key_algorithms (map host_key_data parts.host_keys.items)) _
+    four _ _ _ _ (four_more _ _ _ _ _ (lists_named_decided names parts.side (key_algorithms (map host_key_data parts.host_keys.items)) _
     (host_keys_named_decided names parts.host_keys.items)) (names_decided names parts.services.items) (names_decided names parts.methods.items)
-    (names_decided names parts.required.items))
+    (names_decided names parts.required.items) (names_decided names parts.signature_algorithms.items))
     (methods_decided parts.side.kex_algorithms.items)
     (each_decided (λ name. is_listed (string_bytes name)) IsListed string_bytes (λ name. listed_decided (string_bytes name)) parts.methods.items)
     (each_decided (λ name. is_listed (string_bytes name)) IsListed string_bytes (λ name. listed_decided (string_bytes name)) parts.required.items)
 server_decided names versions parts fault.ListTooLong =
-    three_more _ _ _ _ (lists_short_decided parts.side (key_algorithms (map host_key_data parts.host_keys.items)) _ (host_keys_short_decided parts.host_keys.items))
+    four_more _ _ _ _ _ (lists_short_decided parts.side (key_algorithms (map host_key_data parts.host_keys.items)) _ (host_keys_short_decided parts.host_keys.items))
     (short_decided (map string_bytes parts.services.items)) (short_decided (map string_bytes parts.methods.items)) (short_decided (map string_bytes parts.required.items))
+    (short_decided (map string_bytes parts.signature_algorithms.items))
 server_decided names versions parts fault.Line =
     three _ _ _ (versions _) (count_decided (λ line. line.items) parts.notice_lines.items 20) (notices_decided parts.notice_lines.items)
 server_decided names versions parts fault.User = true_decided

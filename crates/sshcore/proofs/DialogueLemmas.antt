@@ -9,7 +9,7 @@ use Rattle.sshcore.specs.declared.end.Fault.TheVariants as fault
 use Rattle.sshcore.specs.AskedQuestions.{AnsweredData, ComesLater, GiveAll, IsAskedOnce}
 use Rattle.sshcore.specs.Asking.{Answered, AskingAfter, AskingFed, IsSameAsking, asked_at, asked_by, asking_end}
 use Rattle.sshcore.specs.AskingData.{AskingData, WaitingData, asking_setup}
-use Rattle.sshcore.specs.Dialogue.{Answers, AsksByPacket, Cuts, Dialogue, Feeds, Leaves, Makes}
+use Rattle.sshcore.specs.Dialogue.{Answers, AsksByPacket, Cuts, Dialogue, Feeds, IsRested, Leaves, Makes, Rests}
 use Rattle.sshcore.specs.EndData.{Disconnected, EndData, Failed, Open}
 use Rattle.sshcore.specs.EndpointParts.{DecisionsData, Setup}
 use Rattle.sshcore.specs.Questions.{QuestionData, decided, decided_by}
@@ -99,6 +99,20 @@ module _ {S : Type 0} (meaning : S → SuiteData) where
     rises = holds.rises;
   }
 
+  -- a pause, after which the same is asked
+  holds_rested : (old new : AskingData S) (answers : List AnsweredData) (h t : List ℕ) → Holds old answers h t → IsRested meaning old new → Holds new answers h t
+  holds_rested old new answers h t holds rested = record {
+    after = λ d gives. rested.follows d h t (rested.pauses d h t (holds.after d gives));
+    all_asked = λ d gives. all_weaker (λ (a : AnsweredData). WasAsked d old h a.question) (λ (a : AnsweredData). WasAsked d new h a.question)
+        (λ a b. subst (λ (l : List ℕ). WasAsked d new l a.question) (append-nil h)
+        (asked_then d old new same h [] (λ more some r asks. longer more [] (λ none. some r (sym (rested.asks ∙ rested.asked) ∙ asks))) a.question b))
+        answers (holds.all_asked d gives);
+    rises = holds.rises;
+  }
+    where
+      same : IsSameAsking old new
+      same = record { same_role = rested.resumes.is_role; same_config = rested.resumes.is_config; same_suite = rested.resumes.is_suite }
+
   -- a call that used nothing, after which nothing is asked
   holds_quiet : (old new : AskingData S) (answers : List AnsweredData) (h t s : List ℕ) → Holds old answers h t → IsSameAsking old new
       → ((d : DecisionsData) → AskingAfter meaning d old h t → AskingAfter meaning d new h s) → ((r : QuestionData) → asked_by new ≡ Some r → ⊥) → Holds new answers h s
@@ -173,6 +187,7 @@ module _ {S : Type 0} (meaning : S → SuiteData) where
     holds e answers h s (Feeds old new given g t taken before after dialogue fed nothing) = holds_fed old new given g t taken before after (holds old given g t dialogue) fed nothing
     holds e answers h s (Answers old new earlier question answer g t before after dialogue packet asks answered) =
         holds_answered old new earlier question answer g t before after (holds old earlier g t dialogue) packet asks answered
+    holds e answers h s (Rests old new given g t dialogue rested) = holds_rested old new given g t (holds old given g t dialogue) rested
     holds e answers h s (Cuts old new given g t dialogue cuts) =
         holds_quiet old new given g t t (holds old given g t dialogue) cuts.same (λ d a. cuts.follows d g t a) (ended_nothing new (Failed fault.Cut) cuts.cut refl)
     holds e answers h s (Leaves old new given reason description g t before after dialogue leaves) =

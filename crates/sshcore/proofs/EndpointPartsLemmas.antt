@@ -221,6 +221,13 @@ methods_named server is = (last_lists AreNames server (is.keeps fault.Name).0).1
 pub methods_short : (server : ServerData) → IsServer server → length (names_body server.methods) ≤ 1000
 methods_short server is = (last_lists IsShortList server (is.keeps fault.ListTooLong)).1
 
+-- what a server tells of users' keys is short
+pub signatures_short : (server : ServerData) → IsServer server → length (names_body server.signature_algorithms) ≤ 1000
+signatures_short server is = by (is.keeps fault.ListTooLong)
+  where
+    by : AllByRecursion IsShortList (all_server_lists server) → IsShortList server.signature_algorithms
+    by (_, (_, (_, (_, (_, (_, (_, (_, (_, (signatures, _)))))))))) = signatures
+
 -- and no server grants more tries than this
 pub tries_short : (parts : ServerParts) (server : ServerData) → server_data parts ≡ server → IsServer server → parts.tries ≤ 20
 tries_short parts server same is = subst (λ (n : ℕ). n ≤ 20) (sym (ap (λ (s : ServerData). s.tries) same)) (is.keeps fault.Tries).1

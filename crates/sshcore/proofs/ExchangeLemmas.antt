@@ -32,7 +32,9 @@ use Rattle.sshcore.specs.StateData.{StateData, with_exchange}
 use Rattle.sshcore.specs.Output.{Sending, sending_from, sent_from, with_newkeys, with_packet}
 use Rattle.sshcore.specs.EndpointParts.{ConfigData, DecisionsData, setup_with}
 use Rattle.sshcore.specs.Phases.{past_exchange, past_kexinit}
-use Rattle.sshcore.specs.Work.{answered_by, init_reply, reply_in, reply_reply, signed_by, userauth}
+use Rattle.sshcore.specs.Work.{answered_by, init_reply, reply_in, reply_reply, signed_by, told_by, userauth}
+use Rattle.sshcore.proofs.GivesLemmas.{sent_then}
+use Rattle.sshcore.proofs.HistoryLemmas.{fit_both}
 use Rattle.sshcore.proofs.OutputLemmas.{sent_switch, sent_two}
 
 -- a share and a shared secret in their form are short
@@ -201,18 +203,32 @@ module _ (m : SuiteData) (party : ConfigData) (old new : StateData) (before afte
       signed.reply_is
       ∙ ap (λ (h : List ℕ). written_message (reply_in (m.share_form a.kex) x.host_key answer.share (m.sign a.host_key secret h))) signed.hash_is
       ∙ ap (λ (f : ShareForm). written_message (reply_in f x.host_key answer.share (m.sign a.host_key secret (exchange_hash m a.kex x)))) (sym (form.form (ap past_kexinit at))) in
-      let is : init_reply m Server party old.known message ≡ goes (reply ∷ written_message NewKeys ∷ []) =
-      init_is answer given ∙ ap (λ (p : List ℕ). goes (p ∷ written_message NewKeys ∷ [])) (sym same) in
+      let told : Units = told_by party old.known in
+      let answers : Units = reply ∷ written_message NewKeys ∷ [] in
+      let is : init_reply m Server party old.known message ≡ goes (reply ∷ written_message NewKeys ∷ told) =
+      init_is answer given ∙ ap (λ (p : List ℕ). goes (p ∷ written_message NewKeys ∷ told)) (sym same) in
       let quiet : (kind reply == 21) ≡ false =
       ap (λ (p : List ℕ). kind p == 21) signed.reply_is ∙ reply_kind (m.share_form a.kex) x.host_key answer.share (m.sign a.host_key secret hash) in
       let two = sent_two m party.seed old.known.strict next old.sending reply (written_message NewKeys) quiet newkeys_kind (form.clear (ap past_exchange at)) in
+      let all = sent_then m party.seed old.known.strict next old.sending answers told in
+      let own : KeysData = kex_keys m a answer.shared hash Server in
+      let switched : KeysData → Sending = λ k. with_newkeys old.known.strict k (with_packet old.sending) in
+      let o : Sending = sending_from old.known.strict own (switched own) told in
+      let first : List ℕ = spelled_by m old.sending.keys party.seed old.sending.number reply in
+      let second : List ℕ = spelled_by m old.sending.keys party.seed (with_packet old.sending).number (written_message NewKeys) in
+      let third : Sending → List ℕ = λ p. sent_from m party.seed old.known.strict next p told in
       subst (λ (r : Reply). ReceivesExchange m Server party old new before after message r) (sym is)
-      (receives_on m Server party old new before after message x hash (with_newkeys old.known.strict (kex_keys m a answer.shared hash Server) (with_packet old.sending))
-      (reply ∷ written_message NewKeys ∷ []) (hashed_server answer given) signed.hash_is ongoing (subst (λ (h : List ℕ). StandsAfter m Server party old new h answer.shared hash (with_newkeys old.known.strict (kex_keys m a answer.shared hash Server) (with_packet old.sending))) signed.host_key_is sent.stands)
-      (sent.output ∙ append_assoc before (spelled_by m old.sending.keys party.seed old.sending.number reply)
-      (spelled_by m old.sending.keys party.seed (with_packet old.sending).number (written_message NewKeys)) ∙ ap (λ (l : List ℕ). before ++ l) (sym two.0))
-      (ap (λ (k : KeysData). with_newkeys old.known.strict k (with_packet old.sending)) keys ∙ sym two.1)
-      (signed.fits, (newkeys_fits, tt)))
+      (receives_on m Server party old new before after message x hash o (reply ∷ written_message NewKeys ∷ told) (hashed_server answer given) signed.hash_is ongoing
+      (subst (λ (h : List ℕ). StandsAfter m Server party old new h answer.shared hash o) signed.host_key_is sent.stands)
+      (subst (λ (k : KeysData). after ≡ ((before ++ first) ++ second) ++ sent_from m party.seed old.known.strict k (switched k) told) keys sent.output
+      ∙ ap (λ (l : List ℕ). l ++ third (switched next)) (append_assoc before first second)
+      ∙ append_assoc before (first ++ second) (third (switched next))
+      ∙ ap (λ (l : List ℕ). before ++ (l ++ third (switched next))) (sym two.0)
+      ∙ ap (λ (p : Sending). before ++ (sent_from m party.seed old.known.strict next old.sending answers ++ third p)) (sym two.1)
+      ∙ ap (λ (l : List ℕ). before ++ l) (sym all.0))
+      (ap (λ (k : KeysData). sending_from old.known.strict k (switched k) told) keys
+      ∙ ap (λ (p : Sending). sending_from old.known.strict next p told) (sym two.1) ∙ sym all.1)
+      (fit_both answers told (signed.fits, (newkeys_fits, tt)) sent.fits))
 
   pub init_answers : (role : Side) (answer : ResponseData) (shared hash host_key reply : List ℕ) → role ≡ Server → shared ≡ answer.shared
       → m.respond old.known.algorithms.kex party.random share ≡ Some answer → old.end ≡ Open → old.phase ≡ phase.Exchange → HasForm m old

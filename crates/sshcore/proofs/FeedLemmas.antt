@@ -1,6 +1,6 @@
 -- An endpoint that stands open, and one step of its reader.
 
-use Rattle.std.proofs.Common.{◌≡◌, inl, inr, ℕ, ◌+◌, ◌≤◌, ◌==◌, Bool, true, false, cond, List, [], ◌∷◌, ◌++◌, length, take, Option, None, Some, refl, sym, ap, ◌∙◌, subst}
+use Rattle.std.proofs.Common.{◌≡◌, ◌≢◌, inl, inr, ℕ, ◌+◌, ◌≤◌, ◌==◌, Bool, true, false, cond, List, [], ◌∷◌, ◌++◌, length, take, Option, None, Some, refl, sym, ap, ◌∙◌, subst}
 use Rattle.std.proofs.lemmas.Bool.{cases_Bool, true≢false}
 use Rattle.sshmsg.specs.Numbers.{kind}
 use Rattle.sshmsg.specs.Written.{written_message}
@@ -14,7 +14,6 @@ use Rattle.sshpacket.specs.Places.{EachPlace, flat_places, stands}
 use Rattle.sshpacket.specs.Stream.{Sent, Units}
 use Rattle.sshpacket.specs.Suite.{SuiteData}
 use Rattle.sshcore.specs.declared.end.Fault.{Fault}
-use Rattle.sshcore.specs.declared.end.Fault.TheVariants as fault
 use Rattle.sshcore.specs.declared.input.Input.{Input}
 use Rattle.sshcore.specs.declared.table.Phase.{Phase}
 use Rattle.sshcore.specs.declared.table.Phase.TheVariants as phase
@@ -22,7 +21,7 @@ use Rattle.sshcore.specs.Before.{stood, strict_at}
 use Rattle.sshcore.specs.Brings.{Brings, Gives, IsOngoing}
 use Rattle.sshcore.specs.Counting.{is_newkeys, number_in, switched_out}
 use Rattle.sshcore.specs.Directions.{keys_in, parsers, payloads_in, spells, version_in}
-use Rattle.sshcore.specs.EndData.{Authenticated, Disconnected, EndData, Failed, Open, Reply, disconnect, fails, parting}
+use Rattle.sshcore.specs.EndData.{Authenticated, Disconnected, EndData, Failed, Open, Reply, by_input, disconnect, fails, parting}
 use Rattle.sshcore.specs.Exchange.{keys_at, keys_by}
 use Rattle.sshcore.specs.History.{AllFit, History, IsReady}
 use Rattle.sshcore.specs.Inputs.{AsReceived, CutOff, EndpointStands, GoesOn, IsCarried, IsInput, IsInside, Left, StandsSo, pending_at}
@@ -68,13 +67,13 @@ pub left_over : (reason : ℕ) (e : EndData) → e ≡ Disconnected reason → I
 left_over reason e is (inl o) = absurd cc
 left_over reason e is (inr a) = let same : e ≡ Authenticated a.0 = a.1 in absurd cc
 
--- of refused packets running out of memory alone fails as that
-pub from_memory : (f : PacketFault) → Failed (fault_of (OfPacket f)) ≡ Failed fault.Memory → f ≡ packet.Memory
-from_memory packet.Length e = absurd cc
-from_memory packet.Padding e = absurd cc
-from_memory packet.Empty e = absurd cc
-from_memory packet.Mac e = absurd cc
-from_memory packet.Memory e = refl
+-- a refused packet comes of what is received, unless memory ran out
+pub by_packet : (f : PacketFault) → f ≢ packet.Memory → by_input (Failed (fault_of (OfPacket f))) ≡ true
+by_packet packet.Length had = refl
+by_packet packet.Padding had = refl
+by_packet packet.Empty had = refl
+by_packet packet.Mac had = refl
+by_packet packet.Memory had = absurd (had refl)
 
 -- an endpoint that is open has come to that by what it received, and nothing of it was refused
 pub received_open : (received_end end : EndData) → StandsSo received_end end → end ≡ Open → received_end ≡ Open

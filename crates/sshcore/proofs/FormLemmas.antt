@@ -13,7 +13,7 @@ use Rattle.sshcore.specs.declared.table.Phase.TheVariants as phase
 use Rattle.sshcore.specs.Known.{Known}
 use Rattle.sshcore.specs.EndpointParts.{Setup}
 use Rattle.sshcore.specs.Plan.{is_waiting}
-use Rattle.sshcore.specs.Replies.{line_reply, read_reply}
+use Rattle.sshcore.specs.Replies.{allowed, line_reply, read_reply}
 use Rattle.sshcore.specs.Table.{line_by}
 use Rattle.sshcore.specs.Requests.{request_reply}
 use Rattle.sshcore.specs.Work.{kexinit_reply, work}
@@ -54,7 +54,7 @@ module _ (below : Below) (setup : Setup) where
   alike_line : (known : Known) (packet : ℕ) (payload : List ℕ) (form : ShareForm) (strict : Bool) (l : Line) → Sees setup.role phase.KexInit strict false (kind payload) l
       → line_reply setup (record known { shares = form }) packet l payload ≡ line_reply setup known packet l payload
   unfolding line_reply
-  alike_line known packet payload form strict line.Reads s = let two = no_share setup.role strict (kind payload) s in alike_read known form payload two.0 two.1
+  alike_line known packet payload form strict line.Reads s = let two = no_share setup.role strict (kind payload) s in ap (allowed known payload) (alike_read known form payload two.0 two.1)
   alike_line known packet payload form strict line.Drops s = refl
   alike_line known packet payload form strict line.Deviates s = refl
   alike_line known packet payload form strict line.Unknown s = refl

@@ -35,7 +35,7 @@ module _ (m : SuiteData) (seed : List ℕ) (strict : Bool) (next : KeysData) whe
   sent_none o = (refl, refl)
 
   -- what is sent after others goes on from them
-  sent_then : (o : Sending) (xs ys : Units)
+  pub sent_then : (o : Sending) (xs ys : Units)
       → (sent_from m seed strict next o (xs ++ ys) ≡ sent_from m seed strict next o xs ++ sent_from m seed strict next (sending_from strict next o xs) ys)
       × (sending_from strict next o (xs ++ ys) ≡ sending_from strict next (sending_from strict next o xs) ys)
   unfolding sent_from sending_from

@@ -7,7 +7,7 @@ use Rattle.std.proofs.lemmas.Bool.{cases_Bool, eq-eqb, eqb-true, true≢false}
 use Rattle.sshwire.specs.declared.share_form.ShareForm.{ShareForm}
 use Rattle.sshwire.specs.declared.share_form.ShareForm.TheVariants.{Hybrid, Mpint, OctetString}
 use Rattle.sshmsg.specs.declared.fault.MsgFault.{MsgFault}
-use Rattle.sshmsg.specs.MessageData.{KexEcdhInit, KexEcdhReply, KexInit, KexInitData, KexdhInit, KexdhReply, MessageData, MethodData, ServiceAccept, ServiceRequest, UserauthFailure, UserauthPkOk, UserauthRequest, UserauthSuccess}
+use Rattle.sshmsg.specs.MessageData.{KexEcdhInit, KexEcdhReply, KexInit, KexInitData, KexdhInit, KexdhReply, MessageData, MethodData, ServiceAccept, ServiceRequest, Unimplemented, UserauthFailure, UserauthPkOk, UserauthRequest, UserauthSuccess}
 use Rattle.sshmsg.specs.Messages.{message_in}
 use Rattle.sshmsg.specs.Numbers.{kind, number_of}
 use Rattle.sshmsg.specs.Written.{written_message}
@@ -40,6 +40,7 @@ use Rattle.sshcore.specs.Requests.{request_reply}
 use Rattle.sshcore.specs.Standing.{Tied}
 use Rattle.sshcore.specs.Table.{line_by}
 use Rattle.sshcore.specs.Work.{accept_reply, banner_by, chosen_reply, guess_of, guessed_method, init_for, init_in, kexinit_reply, making, opening, service_reply, userauth, work}
+use Rattle.sshcore.proofs.IgnoredLimitLemmas.{by_allowance}
 use Rattle.sshcore.proofs.AnswerLemmas.{Confirmed, Elsewhere, IsAnswered, IsRefusal, Last, More, Refused, Succeeds, answered}
 use Rattle.sshcore.proofs.Below.{Below}
 use Rattle.sshcore.proofs.PhaseLemmas.{kept_free, offered_push, stood_push}
@@ -128,7 +129,7 @@ still_success known [] = still_fails (fault.Unexpected 52)
 still_success known (a ∷ later) = still_none
 
 -- the answer to a request
-still_refusal : (m : SuiteData) (d : DecisionsData) (party : ConfigData) (known : Known) (user service : List ℕ) (x : MessageData) → IsRefusal d party known user service x → IsStill (written_message x ∷ [])
+still_refusal : (m : SuiteData) (d : DecisionsData) (party : ConfigData) (known : Known) (user service : List ℕ) (x : MessageData) → IsRefusal m d party known user service x → IsStill (written_message x ∷ [])
 unfolding switched_out written_message
 still_refusal m d party known user service x (Refused partial is) = rw is refl
 still_refusal m d party known user service x (Confirmed algorithm key would is) = rw is refl
@@ -183,7 +184,8 @@ module _ (below : Below) (setup : Setup) where
 
   still_read : (known : Known) (packet : ℕ) (payload : List ℕ) → kind payload ≢ 30 → kind payload ≢ 31 → IsStill (line_reply setup known packet line.Reads payload).answers
   unfolding line_reply
-  still_read known packet payload a b = by (message_in known.shares payload) refl
+  still_read known packet payload a b =
+      by_allowance (λ (r : Reply). IsStill r.answers) known payload (read_reply setup known (kind payload) (message_in known.shares payload)) (still_fails fault.TooMuchIgnored) (by (message_in known.shares payload) refl)
     where
       by : (r : Result MessageData MsgFault) → message_in known.shares payload ≡ r → IsStill (read_reply setup known (kind payload) r).answers
       by (Ok c) e = let is = below.numbers known.shares payload c e in still_work known c (λ q. a (is ∙ q)) (λ q. b (is ∙ q))
@@ -191,7 +193,7 @@ module _ (below : Below) (setup : Setup) where
 
   still_unknown : (known : Known) (packet : ℕ) (payload : List ℕ) → IsStill (line_reply setup known packet line.Unknown payload).answers
   unfolding line_reply switched_out written_message
-  still_unknown known packet payload = refl
+  still_unknown known packet payload = by_allowance (λ (r : Reply). IsStill r.answers) known payload (goes (written_message (Unimplemented packet) ∷ [])) (still_fails fault.TooMuchIgnored) refl
 
   -- a number that leaves a phase and is an exchange message's leaves phase exchange
   from_exchange : (r : Side) (p : Phase) (n : ℕ) → n ≡ leaving r p → (n ≡ 30) ⊎ (n ≡ 31) → p ≡ phase.Exchange

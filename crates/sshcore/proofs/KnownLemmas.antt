@@ -1,7 +1,7 @@
 -- What is known, with one payload more.
 
-use Rattle.std.proofs.Common.{◌≡◌, ◌≢◌, ◌⊎◌, inl, inr, ℕ, ◌+◌, ◌==◌, Bool, true, false, cond, List, [], ◌∷◌, ◌++◌, length, length-append, Some, refl, sym, ap, ◌∙◌, arith}
-use Rattle.std.proofs.lemmas.Bool.{ne_eqb, true≢false}
+use Rattle.std.proofs.Common.{◌≡◌, ◌≢◌, ◌⊎◌, inl, inr, ℕ, ◌+◌, ◌==◌, Bool, true, false, cond, List, [], ◌∷◌, ◌++◌, length, length-append, Option, Some, refl, sym, ap, ◌∙◌, arith}
+use Rattle.std.proofs.lemmas.Bool.{and_parts, eqb-true, ne_eqb, true≢false}
 use Rattle.sshwire.specs.declared.share_form.ShareForm.{ShareForm}
 use Rattle.sshmsg.specs.MessageData.{KexInitData}
 use Rattle.sshmsg.specs.Messages.{message_in}
@@ -15,6 +15,7 @@ use Rattle.sshpacket.specs.Stream.{Units}
 use Rattle.sshpacket.specs.Suite.{SuiteData}
 use Rattle.sshpacket.proofs.Places.{first-push}
 use Rattle.sshcore.specs.declared.table.Phase.TheVariants as phase
+use Rattle.sshcore.specs.IgnoredLimit.{allowance_at}
 use Rattle.sshcore.specs.Before.{all_kept, count_kept, expects_guess, first_kept, kept, kexinit, offered, stood, strict_towards}
 use Rattle.sshcore.specs.ConfigParts.{AttemptData}
 use Rattle.sshcore.specs.Exchange.{algorithms_at, choice_with, chosen_or, exchange_at, exchange_message, exchange_with, keys_at, keys_by, session_at, shares_by}
@@ -25,16 +26,18 @@ use Rattle.sshcore.specs.Plan.{left_after}
 use Rattle.sshcore.specs.Reached.{ReachedData, nothing_reached, reached_after}
 use Rattle.sshcore.specs.Tries.{tried_at}
 use Rattle.sshcore.specs.Standing.{after_exchange, after_offer, after_payload, exchange_received, nothing_known}
+use Rattle.sshcore.specs.Table.{is_ignorable}
+use Rattle.sshcore.proofs.IgnoredLimitLemmas.{allowance_dropped, allowance_more, allowance_stays, exchange_heeded}
 use Rattle.sshcore.proofs.GuessLemmas.{first_kexinit, none_stood}
 use Rattle.sshcore.proofs.PhaseLemmas.{kexinit_push, stood_push}
 use Rattle.sshcore.proofs.PlanLemmas.{kept_exchange, kept_kind, left_more, left_stays, reached_more, reached_stays, requests_more, requests_stay, unanswered_exchange, unanswered_from}
 
-abbrev known_with : List ℕ → List ℕ → AlgorithmsData → ShareForm → List ℕ → ℕ → List AttemptData → ReachedData → Bool → Bool → Known
-known_with v k a f s r l g t i = record { version = v; kexinit = k; algorithms = a; shares = f; session = s; request = r; left = l; reached = g; strict = t; first = i }
+abbrev known_with : List ℕ → List ℕ → AlgorithmsData → ShareForm → List ℕ → ℕ → List AttemptData → ReachedData → Bool → Bool → Option ℕ → Known
+known_with v k a f s r l g t i w = record { version = v; kexinit = k; algorithms = a; shares = f; session = s; request = r; left = l; reached = g; strict = t; first = i; allowance = w }
 
-known_same : (v k k' : List ℕ) (a a' : AlgorithmsData) (f f' : ShareForm) (s s' : List ℕ) (r r' : ℕ) (l l' : List AttemptData) (g g' : ReachedData) (t t' i i' : Bool)
-    → k ≡ k' → a ≡ a' → f ≡ f' → s ≡ s' → r ≡ r' → l ≡ l' → g ≡ g' → t ≡ t' → i ≡ i' → known_with v k a f s r l g t i ≡ known_with v k' a' f' s' r' l' g' t' i'
-known_same v k k' a a' f f' s s' r r' l l' g g' t t' i i' ek ea ef es er el eg et ei = cc
+known_same : (v k k' : List ℕ) (a a' : AlgorithmsData) (f f' : ShareForm) (s s' : List ℕ) (r r' : ℕ) (l l' : List AttemptData) (g g' : ReachedData) (t t' i i' : Bool) (w w' : Option ℕ)
+    → k ≡ k' → a ≡ a' → f ≡ f' → s ≡ s' → r ≡ r' → l ≡ l' → g ≡ g' → t ≡ t' → i ≡ i' → w ≡ w' → known_with v k a f s r l g t i w ≡ known_with v k' a' f' s' r' l' g' t' i' w'
+known_same v k k' a a' f f' s s' r r' l l' g g' t t' i i' w w' ek ea ef es er el eg et ei ew = cc
 
 pub kexinit_stays : (before : Units) (payload : List ℕ) → offered before ≡ true → kexinit (before ++ payload ∷ []) ≡ kexinit before
 kexinit_stays before payload is = kexinit_push before payload ∙ rw is refl
@@ -147,35 +150,40 @@ module _ (setup : Setup) (version : List ℕ) where
     pub known_exchanged : known_at setup version (before ++ payload ∷ []) ≡ after_exchange setup.suite setup.role setup.config (known_at setup version before) payload
     known_exchanged =
         let k : kexinit (before ++ payload ∷ []) ≡ kexinit before = kexinit_stays before payload is in
-        known_same version _ _ _ _ _ _ _ _ _ _ _ _ _ _ _ _ _ _ k (ap (algorithms_of setup.suite setup.role setup.config version) k) (ap (shares_data setup.suite setup.role setup.config version) k)
+        known_same version _ _ _ _ _ _ _ _ _ _ _ _ _ _ _ _ _ _ _ _ k (ap (algorithms_of setup.suite setup.role setup.config version) k) (ap (shares_data setup.suite setup.role setup.config version) k)
         (rw (stood_on setup.suite setup.role setup.config version before payload is none here) (session_is setup.suite setup.role setup.config version before payload is none here))
         (ap (λ (n : ℕ). n + 1) (requests_stay setup.role setup.config.offer before payload (kept_exchange setup.role setup.config.offer before payload 50 (λ q. omega arith) (λ q. omega arith) here)))
         (left_stays setup.role setup.config before payload (unanswered_exchange setup.role setup.config.offer before payload here))
         (reached_stays setup version before payload (kept_exchange setup.role setup.config.offer before payload 50 (λ q. omega arith) (λ q. omega arith) here))
         (ap (λ (x : List ℕ). strict_towards setup.role setup.config.strict (offer_in x)) k) (one_more before payload ∙ sym (some_stood before is))
+        (allowance_stays setup.role setup.config before payload (kept_exchange setup.role setup.config.offer before payload 21 (λ q. omega arith) (λ q. omega arith) here)
+        (exchange_heeded setup.role (kind payload) (eqb-true (kind payload) (leaving setup.role phase.Exchange) (and_parts _ _ here).0)))
 
   module _ (before : Units) (payload : List ℕ)
       (same : kexinit (before ++ payload ∷ []) ≡ kexinit before)
       (side : ((offered before ≡ true) × (stood setup.role setup.config.offer (leaving setup.role phase.Exchange) before ≡ true))
       ⊎ ((stood setup.role setup.config.offer (leaving setup.role phase.Exchange) before ≡ false) × (kept setup.role setup.config.offer (leaving setup.role phase.Exchange) before payload ≡ false))) where
-    pub known_kept : (request : ℕ) (left : List AttemptData) (reached : ReachedData) → count_kept setup.role setup.config.offer 50 (before ++ payload ∷ []) + 1 ≡ request
+    pub known_kept : (request : ℕ) (left : List AttemptData) (reached : ReachedData) (allowance : Option ℕ) → count_kept setup.role setup.config.offer 50 (before ++ payload ∷ []) + 1 ≡ request
         → left_at setup.role setup.config (before ++ payload ∷ []) ≡ left
         → reached_after nothing_reached (tried_at setup version (before ++ payload ∷ [])) ≡ reached
-        → known_at setup version (before ++ payload ∷ []) ≡ record (known_at setup version before) { request = request; left = left; reached = reached; first = false }
-    known_kept request left reached er el eg =
-        known_same version _ _ _ _ _ _ _ _ _ _ _ _ _ _ _ _ _ _ same (ap (algorithms_of setup.suite setup.role setup.config version) same) (ap (shares_data setup.suite setup.role setup.config version) same) (session_kept setup.suite setup.role setup.config version before payload same side) er el eg
-        (ap (λ (x : List ℕ). strict_towards setup.role setup.config.strict (offer_in x)) same) (one_more before payload)
+        → allowance_at setup.role setup.config (before ++ payload ∷ []) ≡ allowance
+        → known_at setup version (before ++ payload ∷ []) ≡ record (known_at setup version before) { request = request; left = left; reached = reached; first = false; allowance = allowance }
+    known_kept request left reached allowance er el eg ew =
+        known_same version _ _ _ _ _ _ _ _ _ _ _ _ _ _ _ _ _ _ _ _ same (ap (algorithms_of setup.suite setup.role setup.config version) same) (ap (shares_data setup.suite setup.role setup.config version) same) (session_kept setup.suite setup.role setup.config version before payload same side) er el eg
+        (ap (λ (x : List ℕ). strict_towards setup.role setup.config.strict (offer_in x)) same) (one_more before payload) ew
 
     -- one that is dropped, and one that isn't
     pub known_dropped : ((k : ℕ) → kept setup.role setup.config.offer k before payload ≡ false)
         → known_at setup version (before ++ payload ∷ []) ≡ record (known_at setup version before) { first = false }
     known_dropped none =
-        known_kept _ _ _ (ap (λ (n : ℕ). n + 1) (requests_stay setup.role setup.config.offer before payload (none 50))) (left_stays setup.role setup.config before payload (unanswered_from setup.role setup.config.offer before payload (none 51) (none 60)))
-        (reached_stays setup version before payload (none 50))
+        known_kept _ _ _ _ (ap (λ (n : ℕ). n + 1) (requests_stay setup.role setup.config.offer before payload (none 50))) (left_stays setup.role setup.config before payload (unanswered_from setup.role setup.config.offer before payload (none 51) (none 60)))
+        (reached_stays setup version before payload (none 50)) (allowance_dropped setup.role setup.config before payload none)
 
-    pub known_after : expects_guess setup.role setup.config.offer before ≡ false
+    pub known_after : expects_guess setup.role setup.config.offer before ≡ false → ((kind payload == 21) ≡ false) ⊎ (stood setup.role setup.config.offer 21 before ≡ false)
         → known_at setup version (before ++ payload ∷ []) ≡ after_payload setup.suite setup.decisions setup.config (known_at setup version before) payload
-    known_after none = known_kept _ _ _ (requests_more setup.role setup.config.offer before payload none) (left_more setup.role setup.config before payload none) (reached_more setup version before payload none)
+    known_after none first =
+        known_kept _ _ _ _ (requests_more setup.role setup.config.offer before payload none) (left_more setup.role setup.config before payload none) (reached_more setup version before payload none)
+        (allowance_more setup.role setup.config before payload none first)
 
   pub known_none : known_at setup version [] ≡ nothing_known setup.config version
   unfolding kexinit stood message_in all_kept count_kept left_after tried_at
@@ -188,10 +196,11 @@ module _ (setup : Setup) (version : List ℕ) where
   known_offered before payload peer none is offers off now =
       let k : kexinit (before ++ payload ∷ []) ≡ payload = first_kexinit before payload none is in
       let not_kept : (n : ℕ) → 20 ≢ n → kept setup.role setup.config.offer n before payload ≡ false = λ n other. kept_kind setup.role setup.config.offer before payload 20 n other is in
-      known_same version _ _ _ _ _ _ _ _ _ _ _ _ _ _ _ _ _ _ k
+      known_same version _ _ _ _ _ _ _ _ _ _ _ _ _ _ _ _ _ _ _ _ k
       (ap (algorithms_of setup.suite setup.role setup.config version) k ∙ ap (λ o. chosen_or (choice_with setup.suite setup.role setup.config.offer o)) offers)
       (ap (shares_data setup.suite setup.role setup.config version) k ∙ ap (λ o. shares_by setup.suite (choice_with setup.suite setup.role setup.config.offer o)) offers) (rw (off, now) refl)
       (ap (λ (n : ℕ). n + 1) (requests_stay setup.role setup.config.offer before payload (not_kept 50 (λ q. omega arith))))
       (left_stays setup.role setup.config before payload (unanswered_from setup.role setup.config.offer before payload (not_kept 51 (λ q. omega arith)) (not_kept 60 (λ q. omega arith))))
       (reached_stays setup version before payload (not_kept 50 (λ q. omega arith)))
       (ap (λ (x : List ℕ). strict_towards setup.role setup.config.strict (offer_in x)) k ∙ ap (λ o. strict_towards setup.role setup.config.strict o) offers) (one_more before payload)
+      (allowance_stays setup.role setup.config before payload (not_kept 21 (λ q. omega arith)) (ap is_ignorable is))

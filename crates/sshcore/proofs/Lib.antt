@@ -15,6 +15,7 @@ pub mod StrictSteps
 pub mod StrictLaws
 pub mod StrictEnds
 pub mod PlanLemmas
+pub mod IgnoredLimitLemmas
 pub mod KnownLemmas
 pub mod CountingLemmas
 pub mod StandingLemmas
@@ -40,6 +41,7 @@ pub mod MoveLemmas
 pub mod FeedLemmas
 pub mod ReadLemmas
 pub mod ExchangeLemmas
+pub mod ExtensionLemmas
 pub mod ReadsLemmas
 pub mod AskedOnceLemmas
 pub mod AnsweredLemmas
@@ -61,6 +63,7 @@ pub mod UncutLemmas
 pub mod ReachedLemmas
 pub mod AnswerLemmas
 pub mod TriesLemmas
+pub mod SuiteFitLemmas
 pub mod SessionLemmas
 pub mod EndpointLemmas
 pub mod AskedNothing

@@ -1,6 +1,6 @@
 -- A link tells what its reader answers, and counts the packets that it opens.
 
-use Rattle.std.proofs.Common.{◌≡◌, ◌≢◌, ◌⊎◌, inl, inr, ℕ, suc, zero, ◌+◌, ◌<◌, List, [], ◌∷◌, ◌++◌, length, refl, ap, ◌∙◌, Option, None, Some, Result, Ok, Err, IfOk, IfSome, arith}
+use Rattle.std.proofs.Common.{◌≡◌, ◌≢◌, ◌⊎◌, inl, inr, ℕ, suc, zero, ◌+◌, ◌<◌, ◌≤◌, List, [], ◌∷◌, ◌++◌, length, refl, ap, ◌∙◌, Option, None, Some, Result, Ok, Err, IfOk, IfSome, arith}
 use Rattle.sshpacket.specs.declared.fault.PacketFault.{PacketFault}
 use Rattle.sshpacket.specs.declared.fault.PacketFault.TheVariants.{Empty, Length, Mac, Memory, Padding}
 use Rattle.sshpacket.specs.declared.reader.PacketStep.{PacketStep}
@@ -9,7 +9,7 @@ use Rattle.sshpacket.specs.ProtectedPacket.{Refuses}
 use Rattle.sshpacket.specs.PacketReaderData.{IsPayload, OnlyPacketAnswer, PacketAnswer, PacketReaderData, ReaderLeaves, Uses, last_used, packet_reader_data, protection_at}
 use Rattle.sshpacket.specs.Suite.{SuiteData}
 use Rattle.sshcore.specs.declared.link_fault.LinkFault.TheVariants as fault
-use Rattle.sshcore.specs.Linked.{Incoming, LinkLeaves, OnlyOpenAnswer, OpenAnswer, Opens, fault_by, packet_ended, told_by}
+use Rattle.sshcore.specs.Linked.{Incoming, LinkLeaves, OnlyOpenAnswer, OpenAnswer, Opens, packet_ended, told_by}
 
 -- after a piece nothing has come to its end, as long as all of it is held
 pub none_ended : (held piece : List ℕ) → packet_ended (held ++ piece) (length piece) ≡ 0
@@ -22,6 +22,12 @@ pub one_ended : (held : List ℕ) (used : ℕ) → held ≡ [] → 0 < used → 
 one_ended [] zero e some = absurd (omega (arith, some))
 one_ended [] (suc n) e some = refl
 one_ended (b ∷ held) used e some = absurd cc
+
+-- at most one has
+few_ended : (held : List ℕ) (used : ℕ) → packet_ended held used ≤ 1
+few_ended [] zero = omega arith
+few_ended [] (suc n) = omega arith
+few_ended (b ∷ held) used = omega arith
 
 module _ (m : SuiteData) (i : Incoming) (piece : List ℕ) where
   pub tells_of : (answer : Result PacketStep PacketFault) → PacketAnswer m (packet_reader_data i.reader) piece answer → OpenAnswer m i piece (told_by answer)
@@ -81,19 +87,22 @@ module _ (m : SuiteData) (i : Incoming) (piece : List ℕ) where
       let one : packet_ended (packet_reader_data new.reader).held (last_used new.reader) ≡ 1 = one_ended (packet_reader_data new.reader).held (last_used new.reader) held some in
       omega (arith, count, one)
 
+  counts_few : (new : Incoming) → new.opened ≡ i.opened + packet_ended (packet_reader_data new.reader).held (last_used new.reader) → new.opened ≤ i.opened + 1
+  counts_few new count = omega (arith, count, few_ended (packet_reader_data new.reader).held (last_used new.reader))
+
   pub leaves_of : (answer : Result PacketStep PacketFault) (new : Incoming) → ReaderLeaves m (packet_reader_data i.reader) piece answer new.reader
       → IfOk answer (λ step. Uses (length piece) step) → new.opened ≡ i.opened + packet_ended (packet_reader_data new.reader).held (last_used new.reader)
       → LinkLeaves m i piece (told_by answer) new
   leaves_of (Ok More) new l uses count = (l.0, counts_more new (ap (λ (s : PacketReaderData). s.held) l.0) l.1 count, l.2)
   leaves_of (Ok (Payload payload seq used)) new l uses count =
       (l.0, counts_one new (ap (λ (s : PacketReaderData). s.held) l.0) (omega (arith, l.1, uses.0)) count, l.2)
-  leaves_of (Err Length) new l uses count = l.0
-  leaves_of (Err Padding) new l uses count = l.0
-  leaves_of (Err Empty) new l uses count = l.0
-  leaves_of (Err Mac) new l uses count = l.0
-  leaves_of (Err Memory) new l uses count = l.0
+  leaves_of (Err Length) new l uses count = (l.0, counts_few new count)
+  leaves_of (Err Padding) new l uses count = (l.0, counts_few new count)
+  leaves_of (Err Empty) new l uses count = (l.0, counts_few new count)
+  leaves_of (Err Mac) new l uses count = (l.0, counts_few new count)
+  leaves_of (Err Memory) new l uses count = (l.0, counts_few new count)
 
--- a fault that was found is told for good
-pub again_of : (found : Option PacketFault) (answer : Result PacketStep PacketFault) → IfSome found (λ f. answer ≡ Err f) → IfSome found (λ f. told_by answer ≡ Err (fault_by f))
-again_of None answer h = tt
-again_of (Some f) answer h = ap told_by h
+-- where no fault is found nothing is claimed of one
+pub none_found : (claim : PacketFault → Type 0) (found told : Option PacketFault) → told ≡ found → ((f : PacketFault) → told ≡ Some f → ⊥) → IfSome found claim
+none_found claim None told same none = tt
+none_found claim (Some f) told same none = absurd (none f same)

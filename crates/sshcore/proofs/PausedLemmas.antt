@@ -71,8 +71,11 @@ module _ (old new : StateData) (same_end : new.end ≡ old.end) (same : IsOngoin
   }
 
 -- It may be resumed with what is the same.
-pub fits_as : (m : SuiteData) (role r : Side) (party q : ConfigData) (p : PausedData) → role ≡ r → party ≡ q → FitsPaused m role party p → FitsPaused m r q p
-fits_as m role r party q p same_role same_party fits = subst (λ (x : Side). FitsPaused m x q p) same_role (subst (λ (x : ConfigData). FitsPaused m role x p) same_party fits)
+pub fits_as : {S : Type 0} (meaning : S → SuiteData) (role r : Side) (party q : ConfigData) (suite t : S) (p : PausedData S) → role ≡ r → party ≡ q → suite ≡ t
+    → FitsPaused meaning role party suite p → FitsPaused meaning r q t p
+fits_as {S} meaning role r party q suite t p same_role same_party same_suite fits =
+    subst (λ (x : Side). FitsPaused meaning x q t p) same_role
+    (subst (λ (x : ConfigData). FitsPaused meaning role x t p) same_party (subst (λ (x : S). FitsPaused meaning role party x p) same_suite fits))
 
 -- A state that is kept without its plan.
 module _ (plan : List AttemptData) (old kept : State) (left : ℕ) (left_is : left ≡ length old.left.now) (waits : Bool) (waits_is : waits ≡ is_waiting (state_data old).known.left)
@@ -99,11 +102,13 @@ module _ (plan : List AttemptData) (old kept : State) (left : ℕ) (left_is : le
   kept_but_plan = ap (with_left []) kept_as
 
 -- What is paused may be resumed, as what was there.
-pub paused_fits : (m : SuiteData) (party : ConfigData) (old : State) (p : PausedData) → p.left ≡ length old.left.now → (waits : Bool) → waits ≡ is_waiting (state_data old).known.left
-    → p.state.confirmed ≡ not waits → state_data p.state ≡ with_left (left_of (not waits) []) (state_data old) → (role : Side) → p.role ≡ role
-    → IsAskingEndpoint m role party (state_data old) p.input p.waiting → FitsPaused m role party p
-paused_fits m party old p left_is waits waits_is confirmed_is kept_is role role_is asking = record {
+pub paused_fits : {S : Type 0} (meaning : S → SuiteData) (party : ConfigData) (suite : S) (old : State) (p : PausedData S) → p.left ≡ length old.left.now → (waits : Bool) → waits ≡ is_waiting (state_data old).known.left
+    → p.state.confirmed ≡ not waits → state_data p.state ≡ with_left (left_of (not waits) []) (state_data old) → (role : Side) → p.role ≡ role → p.configs ≡ party ∷ [] → p.suites ≡ suite ∷ []
+    → IsAskingEndpoint (meaning suite) role party (state_data old) p.input p.waiting → FitsPaused meaning role party suite p
+paused_fits meaning party suite old p left_is waits waits_is confirmed_is kept_is role role_is config_is suite_is asking = record {
   is_role = role_is;
+  is_config = config_is;
+  is_suite = suite_is;
   fits = asking_as (state_data old) (kept_with party.plan p.state p.left) (kept_end party.plan old p.state p.left left_is waits waits_is confirmed_is kept_is)
-      (λ o. kept_same party.plan old p.state p.left left_is waits waits_is confirmed_is kept_is ((asking.keeps o).rest)) m role party p.input p.waiting asking;
+      (λ o. kept_same party.plan old p.state p.left left_is waits waits_is confirmed_is kept_is ((asking.keeps o).rest)) (meaning suite) role party p.input p.waiting asking;
 }

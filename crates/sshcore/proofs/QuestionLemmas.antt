@@ -3,7 +3,6 @@
 use Rattle.std.proofs.Common.{◌≡◌, ◌⊎◌, inl, inr, ℕ, ◌==◌, Bool, true, false, List, [], ◌∷◌, length, Option, None, Some, Result, Ok, Err, refl, sym, ap, ◌∙◌, subst, arith, if◌then◌else◌}
 use Rattle.std.specs.Prelude.{◌&&◌, codes, nat_le}
 use Rattle.std.proofs.lemmas.Bool.{cases_Bool, eqb-true}
-use Rattle.sshwire.specs.TypeReadings.{is_name}
 use Rattle.sshwire.specs.declared.share_form.ShareForm.TheVariants.{Mpint}
 use Rattle.sshmsg.proofs.NumberLemmas.{reads_alike}
 use Rattle.sshmsg.specs.declared.fault.MsgFault.{MsgFault}
@@ -29,14 +28,16 @@ use Rattle.sshcore.specs.Exchange.{answer_with, exchange_with, host_key_by, keys
 use Rattle.sshcore.specs.Known.{Known}
 use Rattle.sshcore.specs.Phases.{next_phase}
 use Rattle.sshcore.specs.Plan.{is_waiting}
-use Rattle.sshcore.specs.Questions.{HostKeyQuestion, QuestionData, UserQuestion, decided, decided_by, line_question, message_question, method_question, proof_question, query_question, question_at, request_question}
-use Rattle.sshcore.specs.Replies.{line_reply, read_reply}
+use Rattle.sshcore.specs.Questions.{HostKeyQuestion, QuestionData, UserQuestion, decided, decided_by, line_question, message_question, method_question, claim_question, query_question, question_at, request_question}
+use Rattle.sshcore.specs.Replies.{allowed, line_reply, read_reply}
 use Rattle.sshcore.specs.Requests.{is_last_try, is_successful, method_reply, more_reply, query_answer, request_reply, tried_reply}
 use Rattle.sshcore.specs.Standing.{after_payload, exchange_received}
 use Rattle.sshcore.specs.StateData.{Carried, StateData}
 use Rattle.sshcore.specs.Table.{line_by}
-use Rattle.sshcore.specs.Tries.{is_decided, key_of, proof_in, successful_key_by, successful_key_in, tried_by, tried_in, tried_with}
+use Rattle.sshcore.specs.Tries.{claimed_proof, is_decided, is_supported, is_verified, key_of, proof_in, successful_key_by, successful_key_in, tried_by, tried_in, tried_with}
 use Rattle.sshcore.specs.Work.{reply_reply, signed_by, work}
+use Rattle.sshcore.proofs.IgnoredLimitLemmas.{allowed_number}
+use Rattle.sshcore.proofs.RequestLemmas.{successful_claim}
 use Rattle.sshcore.proofs.WorksLemmas.{failed_ends}
 
 -- a line that reads, or that fails the endpoint
@@ -67,18 +68,25 @@ module _ (m : SuiteData) (role : Side) (party : ConfigData) (d e : DecisionsData
   abbrev Alike : Option QuestionData → Type 0
   Alike q = decided_by d q ≡ decided_by e q
 
-  proof_alike : (number : ℕ) (user service : List ℕ) (o : Option ProofData) → Alike (proof_question number user service o)
+  claim_alike : (number : ℕ) (user service : List ℕ) (o : Option ProofData) → Alike (claim_question number user service o)
       → is_decided d number user service o ≡ is_decided e number user service o
-  proof_alike number user service None alike = refl
-  proof_alike number user service (Some proof) alike = alike
+  claim_alike number user service None alike = refl
+  claim_alike number user service (Some proof) alike = alike
+
+  claimed_alike : (known : Known) (user service : List ℕ) (method : MethodData) → Alike (claim_question known.request user service (claimed_proof m party method))
+      → is_successful m d party known user service method ≡ is_successful m e party known user service method
+  claimed_alike known user service method alike =
+      successful_claim m d party known.session known.request user service method
+      ∙ (ap (λ (b : Bool). is_verified m known.session user service method && b) (claim_alike known.request user service (claimed_proof m party method) alike)
+      ∙ sym (successful_claim m e party known.session known.request user service method))
 
   successful_alike : (known : Known) (user service : List ℕ) (method : MethodData) → Alike (method_question m party known user service method)
       → is_successful m d party known user service method ≡ is_successful m e party known user service method
   unfolding proof_in
-  successful_alike known user service NoMethod alike = proof_alike known.request user service (proof_in m party known.session user service NoMethod) alike
-  successful_alike known user service (Password password) alike = proof_alike known.request user service (proof_in m party known.session user service (Password password)) alike
+  successful_alike known user service NoMethod alike = claimed_alike known user service NoMethod alike
+  successful_alike known user service (Password password) alike = claimed_alike known user service (Password password) alike
   successful_alike known user service (PasswordChange old new) alike = refl
-  successful_alike known user service (PublicKey algorithm key signature) alike = proof_alike known.request user service (proof_in m party known.session user service (PublicKey algorithm key signature)) alike
+  successful_alike known user service (PublicKey algorithm key signature) alike = claimed_alike known user service (PublicKey algorithm key signature) alike
   successful_alike known user service (PublicKeyQuery algorithm key) alike = refl
   successful_alike known user service (OtherMethod name fields) alike = refl
 
@@ -92,10 +100,10 @@ module _ (m : SuiteData) (role : Side) (party : ConfigData) (d e : DecisionsData
   would_alike false true false short q f g alike = refl
   would_alike false false named short q f g alike = refl
 
-  query_alike : (known : Known) (user service algorithm key : List ℕ) → Alike (query_question party known user service algorithm key)
-      → more_reply party known (query_answer d party known user service algorithm key) ≡ more_reply party known (query_answer e party known user service algorithm key)
+  query_alike : (known : Known) (user service algorithm key : List ℕ) → Alike (query_question m party known user service algorithm key)
+      → more_reply party known (query_answer m d party known user service algorithm key) ≡ more_reply party known (query_answer m e party known user service algorithm key)
   query_alike known user service algorithm key alike =
-      would_alike (is_last_try party known) (is_in party.methods (codes "publickey")) (is_name algorithm) (nat_le (length key) BLOB_LIMIT)
+      would_alike (is_last_try party known) (is_in party.methods (codes "publickey")) (is_supported m algorithm) (nat_le (length key) BLOB_LIMIT)
       (UserQuestion known.request user service (KeyProof algorithm key)) (fails fault.TooManyTries)
       (λ b. goes (written_message (if b then UserauthPkOk algorithm key else UserauthFailure party.methods false) ∷ [])) alike
 
@@ -143,7 +151,7 @@ module _ (m : SuiteData) (role : Side) (party : ConfigData) (d e : DecisionsData
   line_alike : (known : Known) (packet : ℕ) (l : Line) (payload : List ℕ) → Alike (line_question m role party known l payload)
       → line_reply (setup_with m d role party) known packet l payload ≡ line_reply (setup_with m e role party) known packet l payload
   unfolding line_question line_reply
-  line_alike known packet line.Reads payload alike = read_alike known (kind payload) (message_in known.shares payload) alike
+  line_alike known packet line.Reads payload alike = ap (allowed known payload) (read_alike known (kind payload) (message_in known.shares payload) alike)
   line_alike known packet line.Drops payload alike = refl
   line_alike known packet line.Deviates payload alike = refl
   line_alike known packet line.Unknown payload alike = refl
@@ -198,7 +206,9 @@ module _ (m : SuiteData) (role : Side) (party : ConfigData) (d e : DecisionsData
   tried_line : (known : Known) (packet : ℕ) (l : Line) (payload : List ℕ) → ReadsOrFails l → kind payload ≡ 50 → Alike (line_question m role party known l payload)
       → IsOngoing (line_reply (setup_with m e role party) known packet l payload).end → TriedAlike known payload
   unfolding line_question line_reply
-  tried_line known packet line.Reads payload side is alike goes_on = tried_form known payload is alike goes_on
+  tried_line known packet line.Reads payload side is alike goes_on =
+      let r : Reply = read_reply (setup_with m e role party) known (kind payload) (message_in known.shares payload) in
+      tried_form known payload is alike (subst (λ (x : Reply). IsOngoing x.end) (allowed_number known payload r 50 is refl) goes_on)
   tried_line known packet line.Deviates payload side is alike goes_on = absurd (failed_ends (Failed (fault.Strict (kind payload))) (fault.Strict (kind payload)) refl goes_on)
   tried_line known packet line.Unexpected payload side is alike goes_on = absurd (failed_ends (Failed (fault.Unexpected (kind payload))) (fault.Unexpected (kind payload)) refl goes_on)
   tried_line known packet line.Drops payload (inl e) is alike goes_on = absurd cc

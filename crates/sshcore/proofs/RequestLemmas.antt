@@ -1,7 +1,7 @@
 -- What a request of authentication proves, and how it is answered.
 
 use Rattle.std.proofs.Common.{◌≡◌, ◌↔◌, Bor, ℕ, ◌≤◌, Bool, true, false, List, [], ◌∷◌, length, map, Option, None, Some, option_map, inl, inr, refl, sym, ap, ◌∙◌, arith, if◌then◌else◌}
-use Rattle.std.specs.Prelude.{nat_le}
+use Rattle.std.specs.Prelude.{◌&&◌, codes, nat_le}
 use Rattle.std.proofs.lemmas.Bool.{cases_Bool}
 use Rattle.std.proofs.lemmas.List.{length-map}
 use Rattle.sshwire.specs.TypeReadings.{is_name}
@@ -22,27 +22,66 @@ use Rattle.sshcore.specs.Known.{Known}
 use Rattle.sshcore.specs.EndpointParts.{ConfigData, DecisionsData, KeyProof, ProofData}
 use Rattle.sshcore.specs.Requests.{completes, is_successful, method_reply, more_reply, query_answer, request_reply, tried_reply, would_do}
 use Rattle.sshcore.specs.Reached.{ReachedData, is_complete, kept_reached, reached_after_one, successful_reached}
-use Rattle.sshcore.specs.Tries.{key_of, proof_in, signed_proof, tried_with}
+use Rattle.sshcore.specs.Tries.{claimed_proof, is_decided, is_successful_at, is_verified, key_of, proof_in, tried_with}
 use Rattle.sshcore.proofs.ConfigLemmas.{BodyLaw}
 use Rattle.sshcore.proofs.ConfigOffers.{few_names}
 
 module _ (m : SuiteData) (session user service algorithm key signature : List ℕ) where
-  -- an algorithm that is no name proves nothing
-  pub unnamed_proof : (IsName algorithm → ⊥) → (is_name algorithm ≡ true) ↔ IsName algorithm
-      → ◌≡◌ {A = Option ProofData} None (signed_proof m session user service algorithm key signature)
-  unnamed_proof off same = elim (cases_Bool (is_name algorithm)) [
+  -- under an algorithm that is no name nothing holds
+  pub unnamed_signed : (IsName algorithm → ⊥) → (is_name algorithm ≡ true) ↔ IsName algorithm → false ≡ is_verified m session user service (PublicKey algorithm key signature)
+  unnamed_signed off same = elim (cases_Bool (is_name algorithm)) [
     | inl is ↦ absurd (off (same.0 is))
     | inr not ↦ rw not refl
   ]
 
-  -- a signature that was verified
-  pub verified_proof : (name input : List ℕ) → name ≡ algorithm → IsName algorithm → (is_name algorithm ≡ true) ↔ IsName algorithm
-      → input ≡ signed_text session user service name key → m.verify name key input signature ≡ true
-      → ◌≡◌ {A = Option ProofData} (Some (KeyProof name key)) (signed_proof m session user service algorithm key signature)
-  verified_proof name input e is same made successful =
+  -- under a name the signature decides
+  pub named_signed : (name input : List ℕ) → name ≡ algorithm → IsName algorithm → (is_name algorithm ≡ true) ↔ IsName algorithm
+      → input ≡ signed_text session user service name key → m.verify name key input signature ≡ is_verified m session user service (PublicKey algorithm key signature)
+  named_signed name input e is same made =
       let named : is_name algorithm ≡ true = same.1 is in
-      let verified : m.verify algorithm key (signed_text session user service algorithm key) signature ≡ true = rw (made, e) at successful in
-      rw (named, verified, e) refl
+      rw (named, made, e) refl
+
+-- what claims nothing, or is decided no, isn't successful
+and_refused : (holds agrees : Bool) → agrees ≡ false → false ≡ (holds && agrees)
+and_refused true agrees e = sym e
+and_refused false agrees e = refl
+
+and_agreed : (holds agrees : Bool) → agrees ≡ true → holds ≡ (holds && agrees)
+and_agreed true agrees e = sym e
+and_agreed false agrees e = refl
+
+signed_claim : (decide : Option ProofData → Bool) (proof : ProofData) → decide None ≡ false → (listed named able signed : Bool)
+    → decide (if listed then (if (named && able) && signed then Some proof else None) else None) ≡ ((named && signed) && decide (if listed && (named && able) then Some proof else None))
+signed_claim decide proof none false named able signed = none ∙ and_refused (named && signed) (decide None) none
+signed_claim decide proof none true false able signed = none
+signed_claim decide proof none true true false signed = none ∙ and_refused signed (decide None) none
+signed_claim decide proof none true true true true = refl
+signed_claim decide proof none true true true false = none
+
+module _ (m : SuiteData) (d : DecisionsData) (party : ConfigData) (session : List ℕ) (number : ℕ) (user service : List ℕ) where
+  -- a request is successful if what it claims holds, and the decision on that is yes
+  pub successful_claim : (method : MethodData) → is_successful_at m d party session number user service method
+      ≡ (is_verified m session user service method && is_decided d number user service (claimed_proof m party method))
+  unfolding proof_in claimed_proof
+  successful_claim NoMethod = refl
+  successful_claim (Password password) = refl
+  successful_claim (PasswordChange old new) = refl
+  successful_claim (PublicKey algorithm key signature) =
+      signed_claim (λ o. is_decided d number user service o) (KeyProof algorithm key) refl (is_in party.methods (codes "publickey")) (is_name algorithm) (m.can algorithm).signature
+      (m.verify algorithm key (signed_text session user service algorithm key) signature)
+  successful_claim (PublicKeyQuery algorithm key) = refl
+  successful_claim (OtherMethod name fields) = refl
+
+  module _ (method : MethodData) (claim : Option ProofData) (claims : claim ≡ claimed_proof m party method) where
+    pub claim_refused : is_decided d number user service claim ≡ false → false ≡ is_successful_at m d party session number user service method
+    claim_refused refused =
+        and_refused (is_verified m session user service method) (is_decided d number user service claim) refused
+        ∙ (ap (λ o. is_verified m session user service method && is_decided d number user service o) claims ∙ sym (successful_claim method))
+
+    pub claim_accepted : is_decided d number user service claim ≡ true → is_verified m session user service method ≡ is_successful_at m d party session number user service method
+    claim_accepted accepted =
+        and_agreed (is_verified m session user service method) (is_decided d number user service claim) accepted
+        ∙ (ap (λ o. is_verified m session user service method && is_decided d number user service o) claims ∙ sym (successful_claim method))
 
 -- the names of a short text are few
 pub few_texts : {X : Type 0} → BodyLaw → (view : X → List ℕ) (texts : List X) (names : List (List ℕ)) → map view texts ≡ names → length (names_body names) ≤ 1000
@@ -82,7 +121,7 @@ module _ (m : SuiteData) (d : DecisionsData) (party : ConfigData) (known : Known
 
     -- of a service that it has, to a query
     pub reply_query : (algorithm key : List ℕ) → method ≡ PublicKeyQuery algorithm key
-        → more_reply party known (query_answer d party known user own.now algorithm key) ≡ request_reply m d party known user service method
+        → more_reply party known (query_answer m d party known user own.now algorithm key) ≡ request_reply m d party known user service method
     unfolding request_reply
     reply_query algorithm key query = rw (query, both.0, both.1) refl
 
@@ -114,17 +153,17 @@ tried_method m d party known user service (PublicKeyQuery algorithm key) none = 
 tried_method m d party known user service (OtherMethod name fields) none = refl
 
 -- what is kept besides changes no answer to a query
-module _ (d : DecisionsData) (party : ConfigData) (k other : Known) (reached : ReachedData) (same : other ≡ record k { reached = reached }) (user service algorithm key : List ℕ) where
-  pub query_refused : would_do d party other user service algorithm key ≡ false
-      → more_reply party other (UserauthFailure party.methods false) ≡ more_reply party k (query_answer d party k user service algorithm key)
+module _ (m : SuiteData) (d : DecisionsData) (party : ConfigData) (k other : Known) (reached : ReachedData) (same : other ≡ record k { reached = reached }) (user service algorithm key : List ℕ) where
+  pub query_refused : would_do m d party other user service algorithm key ≡ false
+      → more_reply party other (UserauthFailure party.methods false) ≡ more_reply party k (query_answer m d party k user service algorithm key)
   query_refused off =
-      let none : would_do d party k user service algorithm key ≡ false = ap (λ (x : Known). would_do d party x user service algorithm key) (sym same) ∙ off in
+      let none : would_do m d party k user service algorithm key ≡ false = ap (λ (x : Known). would_do m d party x user service algorithm key) (sym same) ∙ off in
       ap (λ (x : Known). more_reply party x (UserauthFailure party.methods false)) same ∙ rw none refl
 
-  pub query_confirmed : (name : List ℕ) → name ≡ algorithm → would_do d party other user service algorithm key ≡ true
-      → more_reply party other (UserauthPkOk name key) ≡ more_reply party k (query_answer d party k user service algorithm key)
+  pub query_confirmed : (name : List ℕ) → name ≡ algorithm → would_do m d party other user service algorithm key ≡ true
+      → more_reply party other (UserauthPkOk name key) ≡ more_reply party k (query_answer m d party k user service algorithm key)
   query_confirmed name e on =
-      let would : would_do d party k user service algorithm key ≡ true = ap (λ (x : Known). would_do d party x user service algorithm key) (sym same) ∙ on in
+      let would : would_do m d party k user service algorithm key ≡ true = ap (λ (x : Known). would_do m d party x user service algorithm key) (sym same) ∙ on in
       ap (λ (x : Known). more_reply party x (UserauthPkOk name key)) same ∙ rw (would, e) refl
 
 -- what is kept after a successful request

@@ -62,11 +62,13 @@ config_data role strict kex follows = record {
   strict = strict;
   random = 9 ∷ [];
   seed = [];
+  ignored_limit = None;
   plan = [];
   host_keys = record { algorithm = codes "h"; secret = 0 ∷ [] } ∷ [];
   services = [];
   methods = [];
   required = [];
+  signature_algorithms = [];
   tries = 6;
   banner = None;
 }

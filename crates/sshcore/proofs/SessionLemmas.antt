@@ -42,7 +42,7 @@ use Rattle.sshcore.specs.Authenticated.{IsAuthenticated}
 use Rattle.sshcore.specs.Before.{expects_guess, kept, stood, strict_at}
 use Rattle.sshcore.specs.Counting.{number_in, number_out, switched_out}
 use Rattle.sshcore.specs.Directions.{keys_in, keys_out, payloads_in, version_in}
-use Rattle.sshcore.specs.EndData.{AgreedData, Authenticated, EndData, Failed, Open, agreed_data, end_data, fails, goes}
+use Rattle.sshcore.specs.EndData.{AgreedData, Authenticated, EndData, Failed, Open, Reply, agreed_data, end_data, fails, goes}
 use Rattle.sshcore.specs.Exchange.{answer_with, exchange_at, exchange_with, keys_at, secret_of}
 use Rattle.sshcore.specs.Inputs.{AsReceived, CutOff, EndpointStands, IsInside, Left, StandsSo}
 use Rattle.sshcore.specs.StateData.{StateData, user_key_data}
@@ -51,12 +51,13 @@ use Rattle.sshcore.specs.Output.{Sending}
 use Rattle.sshcore.specs.EndpointParts.{ConfigData, DecisionsData, Setup, UserKeyData, setup_with}
 use Rattle.sshcore.specs.Phases.{leaving, past_exchange}
 use Rattle.sshcore.specs.Reached.{ReachedData, Tried, is_successful_for, nothing_reached, reached_after, run_of}
-use Rattle.sshcore.specs.Replies.{Ends, Replies, answers_at, end_at, ended, goes_on, line_reply, read_reply, refusal_reply}
+use Rattle.sshcore.specs.Replies.{Ends, Replies, allowed, answers_at, end_at, ended, goes_on, line_reply, read_reply, refusal_reply}
 use Rattle.sshcore.specs.Sessions.{AcceptedBy, HasAccepted, IsSession}
 use Rattle.sshcore.specs.Standing.{Tied}
 use Rattle.sshcore.specs.Table.{line_by}
 use Rattle.sshcore.specs.Tries.{last_key, successful_keys_at, tried_at, tried_with}
-use Rattle.sshcore.specs.Work.{answered_by, init_reply, making, reply_in, reply_reply, signed_by, trusted_by, userauth, work}
+use Rattle.sshcore.specs.Work.{answered_by, init_reply, making, reply_in, reply_reply, signed_by, trusted_by, userauth, work, told_by}
+use Rattle.sshcore.proofs.IgnoredLimitLemmas.{always_allowed, exchange_heeded}
 use Rattle.sshcore.proofs.AuthenticatedLemmas.{auth_switched, authenticated, ends_tried, last_tied, none_refused}
 use Rattle.sshcore.proofs.Below.{Below}
 use Rattle.sshcore.proofs.PhaseLemmas.{kept_dropped, stood_push, tied_phase}
@@ -88,7 +89,7 @@ module _ (m : SuiteData) (d : DecisionsData) (party : ConfigData) (known : Known
   answered_switches None is_open = absurd cc
   answered_switches (Some answer) is_open = by known.shares (m.sign known.algorithms.host_key (secret_of party.host_keys known.algorithms.host_key) (exchange_hash m known.algorithms.kex x))
     where
-      by : (form : ShareForm) (signature : List ℕ) → Switches (written_message (reply_in form x.host_key x.server_share signature) ∷ written_message NewKeys ∷ [])
+      by : (form : ShareForm) (signature : List ℕ) → Switches (written_message (reply_in form x.host_key x.server_share signature) ∷ written_message NewKeys ∷ told_by party known)
       by Mpint signature = refl
       by OctetString signature = refl
       by Hybrid signature = refl
@@ -157,7 +158,10 @@ module _ (below : Below) (setup : Setup) where
     by_line known packet p l (Staying none off out quiet e) here number is_open =
         absurd (true≢false (sym (eq-eqb (kind payload) (leaving setup.role phase.Exchange) number) ∙ quiet.leaves.exchange))
     by_line known packet p l (Leaving none at is) here number is_open =
-        rw is (read_switches known payload (message_in known.shares payload) refl (exchange_number setup.role (kind payload) number) (rw is at is_open))
+        let r : Reply = read_reply setup known (kind payload) (message_in known.shares payload) in
+        let same : allowed known payload r ≡ r = always_allowed known payload r (exchange_heeded setup.role (kind payload) number) in
+        rw is (subst (λ (x : Reply). Switches x.answers) (sym same)
+        (read_switches known payload (message_in known.shares payload) refl (exchange_number setup.role (kind payload) number) (subst (λ (x : Reply). x.end ≡ Open) same (rw is at is_open))))
 
     -- where the exchange message is received, and the endpoint stays open, NEWKEYS is sent
     received_switches : (p : Phase) → Tied setup.role setup.config.offer before p → end_at setup (version ∷ before) payload ≡ Open

@@ -7,6 +7,7 @@ use Rattle.sshwire.specs.declared.share_form.ShareForm.TheVariants.{Mpint}
 use Rattle.sshmsg.specs.MessageData.{KexInit, KexInitData}
 use Rattle.sshmsg.specs.Numbers.{kind}
 use Rattle.sshneg.specs.declared.side.Side.{Side}
+use Rattle.sshneg.specs.declared.side.Side.TheVariants.{Client, Server}
 use Rattle.sshneg.specs.ExchangeEnd.{offer_in}
 use Rattle.sshpacket.specs.Stream.{Units}
 use Rattle.sshcore.specs.declared.table.Phase.{Phase}
@@ -45,6 +46,23 @@ switched_past phase.Exchange e = absurd (true≢false (sym e))
 switched_past phase.NewKeys e = absurd (true≢false (sym e))
 switched_past phase.Service e = refl
 switched_past phase.Auth e = refl
+
+-- what leaves a phase after the exchange is the first NEWKEYS, or none
+service_number : (role : Side) (n : ℕ) → n ≡ leaving role phase.Service → (n == 21) ≡ false
+service_number Client n e = rw e refl
+service_number Server n e = rw e refl
+
+auth_number : (role : Side) (n : ℕ) → n ≡ leaving role phase.Auth → (n == 21) ≡ false
+auth_number Client n e = rw e refl
+auth_number Server n e = rw e refl
+
+first_newkeys : (setup : Setup) (before : Units) (n : ℕ) (p : Phase) → Tied setup.role setup.config.offer before p → past_exchange p ≡ true → n ≡ leaving setup.role p
+    → ((n == 21) ≡ false) ⊎ (stood setup.role setup.config.offer 21 before ≡ false)
+first_newkeys setup before n phase.KexInit t past is = absurd (true≢false (sym past))
+first_newkeys setup before n phase.Exchange t past is = absurd (true≢false (sym past))
+first_newkeys setup before n phase.NewKeys t past is = inr t.newkeys
+first_newkeys setup before n phase.Service t past is = inl (service_number setup.role n is)
+first_newkeys setup before n phase.Auth t past is = inl (auth_number setup.role n is)
 
 module _ (setup : Setup) (version : List ℕ) where
   pub begins : Sits setup version [] phase.KexInit false (nothing_known setup.config version)
@@ -121,7 +139,7 @@ module _ (setup : Setup) (version : List ℕ) where
         record {
           tied = tied_leaves setup.role setup.config.offer before payload p s.tied s.due is;
           due = no_guess setup.role setup.config.offer before payload begun;
-          knows = known_after setup version before payload (kexinit_stays before payload begun) (inl (begun, s.tied.exchange ∙ past)) s.due
+          knows = known_after setup version before payload (kexinit_stays before payload begun) (inl (begun, s.tied.exchange ∙ past)) s.due (first_newkeys setup before (kind payload) p s.tied past is)
               ∙ ap (λ (k : Known). after_payload setup.suite setup.decisions setup.config k payload) s.knows;
         }
 
@@ -140,7 +158,7 @@ module _ (setup : Setup) (version : List ℕ) where
             record {
               tied = tied;
               due = no_guess setup.role setup.config.offer before payload begun;
-              knows = known_after setup version before payload (kexinit_stays before payload begun) (inl (begun, s.tied.exchange ∙ past)) s.due
+              knows = known_after setup version before payload (kexinit_stays before payload begun) (inl (begun, s.tied.exchange ∙ past)) s.due (inl l.newkeys)
                   ∙ ap (λ (k : Known). after_payload setup.suite setup.decisions setup.config k payload) s.knows;
             }
         by p s tied none false past = by_offer (past_kexinit p) refl
@@ -149,13 +167,13 @@ module _ (setup : Setup) (version : List ℕ) where
             by_offer true begun = record {
               tied = tied;
               due = no_guess setup.role setup.config.offer before payload (s.tied.offer ∙ begun);
-              knows = known_after setup version before payload (kexinit_stays before payload (s.tied.offer ∙ begun)) (inr (s.tied.exchange ∙ past, none)) s.due
+              knows = known_after setup version before payload (kexinit_stays before payload (s.tied.offer ∙ begun)) (inr (s.tied.exchange ∙ past, none)) s.due (inl l.newkeys)
                   ∙ ap (λ (k : Known). after_payload setup.suite setup.decisions setup.config k payload) s.knows;
             }
             by_offer false not_begun = record {
               tied = tied;
               due = none_due setup.role setup.config.offer (before ++ payload ∷ []) (tied.offer ∙ not_begun);
-              knows = known_after setup version before payload (kexinit_none before payload (s.tied.offer ∙ not_begun) l.kexinit) (inr (s.tied.exchange ∙ past, none)) s.due
+              knows = known_after setup version before payload (kexinit_none before payload (s.tied.offer ∙ not_begun) l.kexinit) (inr (s.tied.exchange ∙ past, none)) s.due (inl l.newkeys)
                   ∙ ap (λ (k : Known). after_payload setup.suite setup.decisions setup.config k payload) s.knows;
             }
 

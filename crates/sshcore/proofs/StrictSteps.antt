@@ -18,7 +18,7 @@ use Rattle.sshcore.specs.declared.table.Phase.{Phase}
 use Rattle.sshcore.specs.declared.table.Phase.TheVariants as phase
 use Rattle.sshcore.specs.Before.{expects_guess, offered, strict_at, strict_towards}
 use Rattle.sshcore.specs.Counting.{number_in}
-use Rattle.sshcore.specs.EndData.{EndData, Failed, Open}
+use Rattle.sshcore.specs.EndData.{EndData, Failed, Open, Reply}
 use Rattle.sshcore.specs.Known.{Known, known_at, waits_at}
 use Rattle.sshcore.specs.EndpointParts.{ConfigData, Setup}
 use Rattle.sshcore.specs.Phases.{leaving, past_exchange}
@@ -27,6 +27,7 @@ use Rattle.sshcore.specs.Standing.{LeavesNone, Tied}
 use Rattle.sshcore.specs.StrictSequence.{AsClosed, AsMalformed, AsStrict, Begins, Conforms, EndsStrictly}
 use Rattle.sshcore.specs.Table.{is_of_method, is_ruled, line_by}
 use Rattle.sshcore.specs.Work.{kexinit_reply, work}
+use Rattle.sshcore.proofs.IgnoredLimitLemmas.{allowed_number}
 use Rattle.sshcore.proofs.Below.{Below}
 use Rattle.sshcore.proofs.GuessLemmas.{no_guess, none_chosen, read_offer, shown, strict_first, strict_none, strict_push}
 use Rattle.sshcore.proofs.PhaseLemmas.{guess_offered, tied_dropped, tied_leaves, tied_phase, tied_stays}
@@ -48,7 +49,8 @@ module _ (below : Below) (setup : Setup) where
 
   pub closing : (known : Known) (packet : ℕ) (payload : List ℕ) → kind payload ≡ 1 → EndsStrictly (kind payload) (line_reply setup known packet line.Reads payload).end
   unfolding line_reply
-  closing known packet payload is = by (message_in known.shares payload) refl
+  closing known packet payload is =
+      subst (λ (r : Reply). EndsStrictly (kind payload) r.end) (sym (allowed_number known payload (read_reply setup known (kind payload) (message_in known.shares payload)) 1 is refl)) (by (message_in known.shares payload) refl)
     where
       by : (r : Result MessageData MsgFault) → message_in known.shares payload ≡ r → EndsStrictly (kind payload) (read_reply setup known (kind payload) r).end
       by (Ok c) e = closes known payload c is (sym (below.numbers known.shares payload c e) ∙ is)
@@ -110,7 +112,7 @@ module _ (below : Below) (setup : Setup) where
       let x = shown setup.role setup.config.strict payload s in
       let flag : strict_towards setup.role setup.config.strict (Some x.0) ≡ true = ap (λ o. strict_towards setup.role setup.config.strict o) (sym x.1) ∙ s in
       let reads : message_in known.shares payload ≡ Ok (KexInit x.0) = ap (λ f. message_in f payload) form ∙ read_offer payload x.0 x.1 in
-      rw (reads, flag, not_first) (ap (λ n. Failed (fault.Strict n)) (sym is))
+      ap (λ (r : Reply). r.end) (allowed_number known payload (read_reply setup known (kind payload) (message_in known.shares payload)) 20 is refl) ∙ rw (reads, flag, not_first) (ap (λ n. Failed (fault.Strict n)) (sym is))
 
   first_none : (before : Units) → (length before == 0) ≡ true → before ≡ []
   first_none before e = nil_from_length before (eqb-true (length before) 0 e)

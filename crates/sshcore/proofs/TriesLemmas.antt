@@ -27,6 +27,7 @@ use Rattle.sshcore.specs.Replies.{StaysOpen, end_at, line_at, line_reply, read_r
 use Rattle.sshcore.specs.Requests.{is_last_try, request_reply}
 use Rattle.sshcore.specs.Table.{line_by}
 use Rattle.sshcore.specs.Work.{work}
+use Rattle.sshcore.proofs.IgnoredLimitLemmas.{allowed_number}
 use Rattle.sshcore.proofs.AnswerLemmas.{Elsewhere, IsAnswered, Last, More, Succeeds, answered}
 use Rattle.sshcore.proofs.Below.{Below}
 use Rattle.sshcore.proofs.PhaseLemmas.{kept_dropped}
@@ -71,7 +72,9 @@ module _ (below : Below) (m : SuiteData) (d : DecisionsData) (party : ConfigData
   line_tries : (known : Known) (packet : ℕ) (payload : List ℕ) (l : Line) → ReadsOrFails l → kind payload ≡ 50
       → (line_reply (setup_with m d Server party) known packet l payload).end ≡ Open → is_last_try party known ≡ false
   unfolding line_reply
-  line_tries known packet payload line.Reads side is is_open = read_tries known payload (message_in known.shares payload) refl is is_open
+  line_tries known packet payload line.Reads side is is_open =
+      let r : Reply = read_reply (setup_with m d Server party) known (kind payload) (message_in known.shares payload) in
+      read_tries known payload (message_in known.shares payload) refl is (subst (λ (x : Reply). x.end ≡ Open) (allowed_number known payload r 50 is refl) is_open)
   line_tries known packet payload line.Drops (inl e) is is_open = absurd cc
   line_tries known packet payload line.Drops (inr (inl e)) is is_open = absurd cc
   line_tries known packet payload line.Drops (inr (inr e)) is is_open = absurd cc

@@ -2,7 +2,7 @@
 
 use Rattle.std.proofs.Common.{◌≡◌, ℕ, false, List, [], ◌∷◌, Option, None, Some, Result, Ok, Err, refl, ap, ◌∙◌}
 use Rattle.sshmsg.specs.declared.fault.MsgFault.{MsgFault}
-use Rattle.sshmsg.specs.MessageData.{MessageData}
+use Rattle.sshmsg.specs.MessageData.{MessageData, Unimplemented}
 use Rattle.sshmsg.specs.Messages.{message_in}
 use Rattle.sshmsg.specs.Numbers.{kind}
 use Rattle.sshpacket.specs.declared.fault.PacketFault.TheVariants as packet
@@ -11,11 +11,13 @@ use Rattle.sshpacket.specs.Stream.{Units}
 use Rattle.sshcore.specs.declared.table.Line.{Line}
 use Rattle.sshcore.specs.declared.table.Line.TheVariants as line
 use Rattle.sshcore.specs.Counting.{number_in}
-use Rattle.sshcore.specs.EndData.{EndData, Failed, Open, by_owner}
+use Rattle.sshcore.specs.EndData.{EndData, Failed, Open, Reply, by_owner, goes}
 use Rattle.sshcore.specs.Known.{Known, known_at}
 use Rattle.sshcore.specs.EndpointParts.{Setup}
 use Rattle.sshcore.specs.Replies.{Ends, end_at, ended, fault_of, goes_on, line_at, line_reply, read_reply, refusal_reply}
 use Rattle.sshcore.specs.Work.{work}
+use Rattle.sshmsg.specs.Written.{written_message}
+use Rattle.sshcore.proofs.IgnoredLimitLemmas.{by_allowance}
 use Rattle.sshcore.proofs.AuthenticatedLemmas.{Early, Requested, Succeeded, WorkEnds, early_uncut, work_ends}
 
 -- what is received never ends as an owner does
@@ -46,10 +48,11 @@ module _ (setup : Setup) where
 
   uncut_line : (known : Known) (packet : ℕ) (l : Line) (payload : List ℕ) → IsUncut (line_reply setup known packet l payload).end
   unfolding line_reply
-  uncut_line known packet line.Reads payload = uncut_read known (kind payload) (message_in known.shares payload)
+  uncut_line known packet line.Reads payload =
+      by_allowance (λ (r : Reply). IsUncut r.end) known payload (read_reply setup known (kind payload) (message_in known.shares payload)) refl (uncut_read known (kind payload) (message_in known.shares payload))
   uncut_line known packet line.Drops payload = refl
   uncut_line known packet line.Deviates payload = refl
-  uncut_line known packet line.Unknown payload = refl
+  uncut_line known packet line.Unknown payload = by_allowance (λ (r : Reply). IsUncut r.end) known payload (goes (written_message (Unimplemented packet) ∷ [])) refl refl
   uncut_line known packet line.Unexpected payload = refl
 
   pub uncut_unit : (before : Units) (unit : List ℕ) → IsUncut (end_at setup before unit)

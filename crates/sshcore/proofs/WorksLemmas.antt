@@ -27,7 +27,7 @@ use Rattle.sshcore.specs.declared.table.Phase.TheVariants as phase
 use Rattle.sshcore.specs.Attempts.{failure_reply, pk_ok_reply, success_reply}
 use Rattle.sshcore.specs.Authenticating.{FitsMethod, confirmed_attempt, counted_request, failed_attempt, tried_key}
 use Rattle.sshcore.specs.Before.{wrong_guess}
-use Rattle.sshcore.specs.Brings.{Exchanges, Gives, IsOngoing, Leaves, Offers, StandsAt, Stays, Works, carried_after, received_one}
+use Rattle.sshcore.specs.Brings.{Exchanges, Gives, IsOngoing, Leaves, Offers, StandsAt, Stays, Works, carried_after, received_counted, received_newkeys, received_one}
 use Rattle.sshcore.specs.EndData.{Authenticated, Closed, EndData, Failed, Open, Reply, goes}
 use Rattle.sshcore.specs.Exchanged.{ReceivesExchange}
 use Rattle.sshcore.specs.StateData.{StateData}
@@ -39,9 +39,9 @@ use Rattle.sshcore.specs.Plan.{is_waiting, listed_by, listed_in}
 use Rattle.sshcore.specs.Requests.{is_successful, request_reply}
 use Rattle.sshcore.specs.Tries.{tried_with}
 use Rattle.sshcore.specs.Standing.{LeavesNone, after_offer, after_payload}
-use Rattle.sshcore.specs.Table.{line_by}
+use Rattle.sshcore.specs.Table.{line_by, is_ignorable}
 use Rattle.sshcore.specs.Work.{accept_reply, init_reply, kexinit_reply, reply_reply, service_reply, work}
-use Rattle.sshcore.proofs.AfterLemmas.{carried_number, carried_request, failure_after, pk_ok_after, received_number, request_after}
+use Rattle.sshcore.proofs.AfterLemmas.{carried_number, carried_request, counted_number, failure_after, newkeys_after, pk_ok_after, received_number, request_after}
 use Rattle.sshcore.proofs.ReadsLemmas as table
 use Rattle.sshcore.proofs.ReadsLemmas.{IsAt, IsPlain, Reads, plain_number, reads}
 
@@ -211,8 +211,9 @@ module _ (setup : Setup) (old new : StateData) (payload before after : List ℕ)
       }
 
   -- what is known after a message with another number than those of requests and FAILURE
-  received_as : (n : ℕ) → number_of c ≡ n → n ≢ 50 → n ≢ 51 → n ≢ 60 → after_payload setup.suite setup.decisions setup.config old.known payload ≡ received_one old.known
-  received_as n number request failure confirmation = received_number setup.suite setup.decisions setup.config old.known payload n (has.kind_is ∙ number) request failure confirmation
+  received_as : (n : ℕ) → number_of c ≡ n → n ≢ 21 → n ≢ 50 → n ≢ 51 → n ≢ 60 → is_ignorable n ≡ false → after_payload setup.suite setup.decisions setup.config old.known payload ≡ received_one old.known
+  received_as n number newkeys request failure confirmation heeded =
+      received_number setup.suite setup.decisions setup.config old.known payload n (has.kind_is ∙ number) newkeys request failure confirmation heeded
 
   -- and what is carried along
   carried_as : (n : ℕ) → number_of c ≡ n → n ≢ 50 → old.carried ≡ carried_after setup.suite setup.decisions setup.config old.known old.carried payload
@@ -227,7 +228,7 @@ module _ (setup : Setup) (old new : StateData) (payload before after : List ℕ)
   request_works service is gives keys stands =
       by_reply (service_reply setup.config service) (ap (work setup old.known) is)
       (leaves_works Server phase.Service phase.Auth 5 (received_one old.known) (service_reply setup.config service) (ap number_of is) refl refl refl
-      (at_request setup.role old payload c has (ap number_of is)) (received_as 5 (ap number_of is) (λ q. omega arith) (λ q. omega arith) (λ q. omega arith)) gives (λ _. keys ∙ carried_as 5 (ap number_of is) (λ q. omega arith)) stands)
+      (at_request setup.role old payload c has (ap number_of is)) (received_as 5 (ap number_of is) (λ q. omega arith) (λ q. omega arith) (λ q. omega arith) (λ q. omega arith) refl) gives (λ _. keys ∙ carried_as 5 (ap number_of is) (λ q. omega arith)) stands)
 
   pub accept_works : (service : List ℕ) → c ≡ ServiceAccept service
       → ((strict : Bool) (next : KeysData) → Gives setup.suite setup.config.seed strict next old new before after (accept_reply setup.suite old.known service))
@@ -238,7 +239,7 @@ module _ (setup : Setup) (old new : StateData) (payload before after : List ℕ)
   accept_works service is gives keys stands =
       by_reply (accept_reply setup.suite old.known service) (ap (work setup old.known) is)
       (leaves_works Client phase.Service phase.Auth 6 (received_one old.known) (accept_reply setup.suite old.known service) (ap number_of is) refl refl refl
-      (at_accept setup.role old payload c has (ap number_of is)) (received_as 6 (ap number_of is) (λ q. omega arith) (λ q. omega arith) (λ q. omega arith)) gives (λ _. keys ∙ carried_as 6 (ap number_of is) (λ q. omega arith)) stands)
+      (at_accept setup.role old payload c has (ap number_of is)) (received_as 6 (ap number_of is) (λ q. omega arith) (λ q. omega arith) (λ q. omega arith) (λ q. omega arith) refl) gives (λ _. keys ∙ carried_as 6 (ap number_of is) (λ q. omega arith)) stands)
 
   pub user_request_works : (user service : List ℕ) (method : MethodData) → c ≡ UserauthRequest user service method
       → ((strict : Bool) (next : KeysData) → Gives setup.suite setup.config.seed strict next old new before after (request_reply setup.suite setup.decisions setup.config old.known user service method))
@@ -271,7 +272,7 @@ module _ (setup : Setup) (old new : StateData) (payload before after : List ℕ)
       let at = at_success setup.role old payload c has (ap number_of is) in
       by_reply (success_reply old.known) (ap (work setup old.known) is)
       (leaves_works Client phase.Auth phase.Auth 52 (received_one old.known) (success_reply old.known) (ap number_of is) refl refl refl
-      at (received_as 52 (ap number_of is) (λ q. omega arith) (λ q. omega arith) (λ q. omega arith)) gives (λ goes_on. ap (λ (k : StateData). k.carried) (stays goes_on) ∙ carried_as 52 (ap number_of is) (λ q. omega arith))
+      at (received_as 52 (ap number_of is) (λ q. omega arith) (λ q. omega arith) (λ q. omega arith) (λ q. omega arith) refl) gives (λ goes_on. ap (λ (k : StateData). k.carried) (stays goes_on) ∙ carried_as 52 (ap number_of is) (λ q. omega arith))
       (λ goes_on. record {
         phase_is = ap (λ (k : StateData). k.phase) (stays goes_on) ∙ at.phase_is;
         guess_is = ap (λ (k : StateData). k.guess) (stays goes_on);
@@ -340,7 +341,7 @@ module _ (setup : Setup) (old new : StateData) (payload before : List ℕ) (c : 
         moves = λ goes_on. absurd (closed_ends new.end reason ends goes_on);
       })
 
-  pub newkeys_works : c ≡ NewKeys → old.end ≡ Open → new ≡ record old { phase = phase.Service; known = received_one old.known }
+  pub newkeys_works : c ≡ NewKeys → old.end ≡ Open → new ≡ record old { phase = phase.Service; known = received_newkeys setup.config old.known }
       → Works setup old new payload before before (work setup old.known c)
   unfolding work
   newkeys_works is stays next =
@@ -354,11 +355,11 @@ module _ (setup : Setup) (old new : StateData) (payload before : List ℕ) (c : 
             (record {
               phase_is = ap (λ (k : StateData). k.phase) next ∙ sym (ap next_phase at.phase_is);
               guess_is = ap (λ (k : StateData). k.guess) next ∙ none;
-              known_is = ap (λ (k : StateData). k.known) next ∙ sym (received_number setup.suite setup.decisions setup.config old.known payload 21 (has.kind_is ∙ ap number_of is) (λ q. omega arith) (λ q. omega arith) (λ q. omega arith));
+              known_is = ap (λ (k : StateData). k.known) next ∙ sym (newkeys_after setup.suite setup.decisions setup.config old.known payload (has.kind_is ∙ ap number_of is));
             });
       })
 
-  pub plain_works : IsPlain (number_of c) → work setup old.known c ≡ goes [] → old.end ≡ Open → new ≡ record old { known = received_one old.known }
+  pub plain_works : IsPlain (number_of c) → work setup old.known c ≡ goes [] → old.end ≡ Open → new ≡ record old { known = received_counted old.known payload }
       → Works setup old new payload before before (work setup old.known c)
   plain_works plain is stays next =
       let calm = table.plain_read setup.role old.phase old.guess (number_of c) plain has.reads_it in
@@ -370,7 +371,7 @@ module _ (setup : Setup) (old new : StateData) (payload before : List ℕ) (c : 
             (record {
               phase_is = ap (λ (k : StateData). k.phase) next;
               guess_is = ap (λ (k : StateData). k.guess) next ∙ none;
-              known_is = ap (λ (k : StateData). k.known) next ∙ sym (received_number setup.suite setup.decisions setup.config old.known payload (number_of c) has.kind_is plain.user_request plain.failure plain.confirmation);
+              known_is = ap (λ (k : StateData). k.known) next ∙ sym (counted_number setup.suite setup.decisions setup.config old.known payload (number_of c) has.kind_is plain.newkeys plain.user_request plain.failure plain.confirmation);
             });
       })
 

@@ -10,6 +10,7 @@ use Rattle.sshpacket.specs.KeysData.{KeysData}
 use Rattle.sshpacket.specs.Suite.{SuiteData}
 use Rattle.sshcore.specs.declared.table.Phase.{Phase}
 use Rattle.sshcore.specs.declared.table.Phase.TheVariants as phase
+use Rattle.sshcore.specs.IgnoredLimit.{allowance_after}
 use Rattle.sshcore.specs.Before.{wrong_guess}
 use Rattle.sshcore.specs.EndData.{AgreedData, Authenticated, EndData, Open, Reply}
 use Rattle.sshcore.specs.Exchange.{keys_by}
@@ -32,6 +33,14 @@ IsOngoing end = (end ≡ Open) ⊎ ((a : AgreedData) × (end ≡ Authenticated a
 -- the same with one payload more, which changes nothing else
 abbrev pub received_one : Known → Known
 received_one known = record known { first = false }
+
+-- the same where the payload counts, if it says nothing
+abbrev pub received_counted : Known → List ℕ → Known
+received_counted known payload = record known { first = false; allowance = allowance_after known.allowance payload }
+
+-- the same after NEWKEYS, from which on the limit is what may come that says nothing
+abbrev pub received_newkeys : ConfigData → Known → Known
+received_newkeys party known = record known { first = false; allowance = party.ignored_limit }
 
 -- what is carried along after a payload that is neither dropped nor the first KEXINIT nor the exchange message: the key of a
 -- request that was successful

@@ -5,6 +5,10 @@ use Rattle.sshcore.specs.declared.config_fault.ConfigFault.{ConfigFault}
 use Rattle.sshcore.specs.declared.config_fault.ConfigFault.TheVariants as config
 use Rattle.sshcore.specs.declared.end.Fault.{Fault}
 use Rattle.sshcore.specs.declared.end.Fault.TheVariants as fault
+use Rattle.sshcore.specs.declared.suite_fault.AlgorithmList.{AlgorithmList}
+use Rattle.sshcore.specs.declared.suite_fault.AlgorithmList.TheVariants as algorithms
+use Rattle.sshcore.specs.declared.suite_fault.SuiteFault.{SuiteFault}
+use Rattle.sshcore.specs.declared.suite_fault.SuiteFault.TheVariants as suite
 
 -- of a failure
 abbrev pub fault_code : Fault → List ℕ
@@ -24,6 +28,7 @@ fault_code fault.TooManyTries = codes "F13"
 fault_code fault.NoMoreMethods = codes "F14"
 fault_code fault.Memory = codes "F15"
 fault_code fault.Cut = codes "F16"
+fault_code fault.TooMuchIgnored = codes "F17"
 
 -- of a refusal: its number, and a C before it
 abbrev pub config_code : ConfigFault → List ℕ
@@ -39,3 +44,15 @@ config_code config.Tries = codes "C9"
 config_code config.Random = codes "C10"
 config_code config.Memory = codes "C11"
 config_code config.Required = codes "C12"
+
+-- of a refusal of a config over a suite: the codes go on
+abbrev pub suite_code : SuiteFault → List ℕ
+suite_code (suite.Algorithm list name) = codes "C13"
+suite_code (suite.PrivateKey position algorithm) = codes "C14"
+
+-- a list's name in a KEXINIT (RFC 4253 section 7.1)
+abbrev pub list_text : AlgorithmList → List ℕ
+list_text algorithms.Kex = codes "kex_algorithms"
+list_text algorithms.HostKey = codes "server_host_key_algorithms"
+list_text algorithms.EncryptionClientToServer = codes "encryption_algorithms_client_to_server"
+list_text algorithms.EncryptionServerToClient = codes "encryption_algorithms_server_to_client"

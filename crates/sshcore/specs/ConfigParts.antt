@@ -38,6 +38,7 @@ pub record SideData : Type 0 where
   pub cookie : List ℕ
   pub random : List ℕ
   pub seed : List ℕ
+  pub ignored_limit : Option ℕ
 
 pub record ClientData : Type 0 where
   pub side : SideData
@@ -51,6 +52,7 @@ pub record ServerData : Type 0 where
   pub services : List (List ℕ)
   pub methods : List (List ℕ)
   pub required : List (List ℕ)
+  pub signature_algorithms : List (List ℕ)
   pub tries : ℕ
   pub banner : Option (List ℕ)
   pub notices : List (List ℕ)

@@ -40,7 +40,7 @@ abbrev pub server_lists : ServerData → List (List (List ℕ))
 server_lists server = lists_of server.side (key_algorithms server.host_keys)
 
 abbrev pub all_server_lists : ServerData → List (List (List ℕ))
-all_server_lists server = server_lists server ++ server.services ∷ server.methods ∷ server.required ∷ []
+all_server_lists server = server_lists server ++ server.services ∷ server.methods ∷ server.required ∷ server.signature_algorithms ∷ []
 
 -- the list has a name
 abbrev pub IsSome : List (List ℕ) → Type 0

@@ -120,7 +120,7 @@ client_test parts fault.Required = true
 
 abbrev pub server_lists_are_names : ServerParts → Bool
 server_lists_are_names parts =
-    lists_are_names parts.side (host_keys_are_named parts.host_keys.items) && (are_names parts.services.items && (are_names parts.methods.items && are_names parts.required.items))
+    lists_are_names parts.side (host_keys_are_named parts.host_keys.items) && (are_names parts.services.items && (are_names parts.methods.items && (are_names parts.required.items && are_names parts.signature_algorithms.items)))
 
 -- no name stands twice
 abbrev pub are_distinct : List (List ℕ) → Bool
@@ -137,7 +137,7 @@ server_test parts fault.Name =
     server_lists_are_names parts && (are_methods parts.side.kex_algorithms.items && (are_listed parts.methods.items && are_listed parts.required.items))
 server_test parts fault.ListTooLong =
     lists_are_short parts.side (host_keys_are_short parts.host_keys.items)
-    && (is_short_list parts.services.items && (is_short_list parts.methods.items && is_short_list parts.required.items))
+    && (is_short_list parts.services.items && (is_short_list parts.methods.items && (is_short_list parts.required.items && is_short_list parts.signature_algorithms.items)))
 server_test parts fault.Line =
     is_version parts.side
     && (nat_le (length parts.notice_lines.items) NOTICE_LIMIT && are_notices parts.notice_lines.items)

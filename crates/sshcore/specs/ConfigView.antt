@@ -34,6 +34,7 @@ side_data parts = record {
   cookie = parts.cookie.items;
   random = parts.exchange_random.items;
   seed = parts.padding_seed.items;
+  ignored_limit = parts.ignored_limit;
 }
 
 abbrev pub client_data : ClientParts → ClientData
@@ -51,6 +52,7 @@ server_data parts = record {
   services = map string_bytes parts.services.items;
   methods = map string_bytes parts.methods.items;
   required = map string_bytes parts.required.items;
+  signature_algorithms = map string_bytes parts.signature_algorithms.items;
   tries = parts.tries;
   banner = option_map (λ text. text.items) parts.banner;
   notices = map (λ line. line.items) parts.notice_lines.items;

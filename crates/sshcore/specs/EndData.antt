@@ -60,6 +60,13 @@ by_owner (Failed fault.Cut) = true
 by_owner (Disconnected reason) = true
 by_owner _ = false
 
+-- it is open, or what was received ended it: neither did its owner, nor did memory run out
+abbrev pub by_input : EndData → Bool
+by_input (Failed fault.Memory) = false
+by_input (Failed fault.Cut) = false
+by_input (Disconnected reason) = false
+by_input _ = true
+
 -- the reason of the DISCONNECT that a failure sends (RFC 4253 section 11.1), or none where nothing is sent
 abbrev pub reason_of : Fault → Option ℕ
 reason_of fault.Version = None
@@ -78,6 +85,7 @@ reason_of fault.TooManyTries = Some SSH_DISCONNECT_NO_MORE_AUTH_METHODS_AVAILABL
 reason_of fault.NoMoreMethods = Some SSH_DISCONNECT_NO_MORE_AUTH_METHODS_AVAILABLE
 reason_of fault.Memory = None
 reason_of fault.Cut = None
+reason_of fault.TooMuchIgnored = Some SSH_DISCONNECT_PROTOCOL_ERROR
 
 -- the DISCONNECT, with empty texts
 abbrev pub disconnect_by : Option ℕ → Units

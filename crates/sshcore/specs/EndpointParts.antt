@@ -8,7 +8,7 @@ use Rattle.sshpacket.specs.Suite.{SuiteData}
 use Rattle.sshcore.specs.ConfigParts.{AttemptData, ClientData, HostKeyData, ServerData, client_offer, server_offer, version_of}
 
 -- What an endpoint is made of. What its role doesn't have is empty: notices, host keys, services, methods, required
--- methods and banner are a server's, the plan is a client's.
+-- methods, signature algorithms and banner are a server's, the plan is a client's.
 pub record ConfigData : Type 0 where
   pub version : List ℕ
   pub notices : List (List ℕ)
@@ -16,11 +16,13 @@ pub record ConfigData : Type 0 where
   pub strict : Bool
   pub random : List ℕ
   pub seed : List ℕ
+  pub ignored_limit : Option ℕ
   pub plan : List AttemptData
   pub host_keys : List HostKeyData
   pub services : List (List ℕ)
   pub methods : List (List ℕ)
   pub required : List (List ℕ)
+  pub signature_algorithms : List (List ℕ)
   pub tries : ℕ
   pub banner : Option (List ℕ)
 
@@ -32,11 +34,13 @@ config_of_client client = record {
   strict = client.side.strict;
   random = client.side.random;
   seed = client.side.seed;
+  ignored_limit = client.side.ignored_limit;
   plan = client.plan;
   host_keys = [];
   services = [];
   methods = [];
   required = [];
+  signature_algorithms = [];
   tries = 0;
   banner = None;
 }
@@ -49,11 +53,13 @@ config_of_server server = record {
   strict = server.side.strict;
   random = server.side.random;
   seed = server.side.seed;
+  ignored_limit = server.side.ignored_limit;
   plan = [];
   host_keys = server.host_keys;
   services = server.services;
   methods = server.methods;
   required = server.required;
+  signature_algorithms = server.signature_algorithms;
   tries = server.tries;
   banner = server.banner;
 }

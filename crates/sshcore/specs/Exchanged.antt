@@ -18,10 +18,10 @@ use Rattle.sshcore.specs.Chosen.{cipher_of, mac_of}
 use Rattle.sshcore.specs.EndData.{Reply, fails}
 use Rattle.sshcore.specs.Exchange.{exchange_with, keys_by, own_kexinit, secret_of}
 use Rattle.sshcore.specs.Directions.{spelled_by}
-use Rattle.sshcore.specs.History.{FitsPacket}
+use Rattle.sshcore.specs.History.{AllFit, FitsPacket}
 use Rattle.sshcore.specs.StateData.{StateData, with_exchange}
-use Rattle.sshcore.specs.Output.{Sending, with_packet, with_newkeys}
-use Rattle.sshcore.specs.Work.{reply_in, userauth}
+use Rattle.sshcore.specs.Output.{Sending, sending_from, sent_from, with_newkeys, with_packet}
+use Rattle.sshcore.specs.Work.{reply_in, told_by, userauth}
 use Rattle.sshcore.specs.Known.{Known}
 use Rattle.sshcore.specs.EndpointParts.{ConfigData}
 use Rattle.sshcore.specs.Phases.{past_exchange, past_kexinit}
@@ -107,11 +107,16 @@ pub record StandsAfter (m : SuiteData) (role : Side) (party : ConfigData) (old n
     sending = o;
   }
 
--- A server sends its answer and NEWKEYS, and stands after the exchange.
+-- A server sends its answer, NEWKEYS and what it tells a client that asks, and stands after the exchange.
 pub record AnswersInit (m : SuiteData) (role : Side) (party : ConfigData) (old new : StateData) (host_key shared hash reply before after : List ℕ) : Type 0 where
-  pub output : after ≡ (before ++ spelled_by m old.sending.keys party.seed old.sending.number reply)
-      ++ spelled_by m old.sending.keys party.seed (with_packet old.sending).number (written_message NewKeys)
-  pub stands : StandsAfter m role party old new host_key shared hash (with_newkeys old.known.strict (kex_keys m old.known.algorithms shared hash role) (with_packet old.sending))
+  pub output : let next = kex_keys m old.known.algorithms shared hash role in
+      after ≡ ((before ++ spelled_by m old.sending.keys party.seed old.sending.number reply)
+      ++ spelled_by m old.sending.keys party.seed (with_packet old.sending).number (written_message NewKeys))
+      ++ sent_from m party.seed old.known.strict next (with_newkeys old.known.strict next (with_packet old.sending)) (told_by party old.known)
+  pub stands : let next = kex_keys m old.known.algorithms shared hash role in
+      StandsAfter m role party old new host_key shared hash
+      (sending_from old.known.strict next (with_newkeys old.known.strict next (with_packet old.sending)) (told_by party old.known))
+  pub fits : AllFit (told_by party old.known)
 
 -- the same of a client, which sends NEWKEYS and requests the service
 pub record AcceptsReply (m : SuiteData) (role : Side) (party : ConfigData) (old new : StateData) (host_key shared hash before after : List ℕ) : Type 0 where

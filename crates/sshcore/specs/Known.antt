@@ -1,11 +1,12 @@
 -- What is known at a place before its payload is read.
 
-use Rattle.std.specs.Prelude.{ℕ, ◌+◌, ◌==◌, Bool, List, length}
+use Rattle.std.specs.Prelude.{ℕ, ◌+◌, ◌==◌, Bool, List, length, Option}
 use Rattle.sshwire.specs.declared.share_form.ShareForm.{ShareForm}
 use Rattle.sshmsg.specs.declared.numbers.TheConstants.{SSH_MSG_USERAUTH_REQUEST}
 use Rattle.sshneg.specs.declared.side.Side.{Side}
 use Rattle.sshneg.specs.Fields.{AlgorithmsData}
 use Rattle.sshpacket.specs.Stream.{Units}
+use Rattle.sshcore.specs.IgnoredLimit.{allowance_at}
 use Rattle.sshcore.specs.Before.{all_kept, count_kept, kexinit, strict_at}
 use Rattle.sshcore.specs.ConfigParts.{AttemptData}
 use Rattle.sshcore.specs.Exchange.{algorithms_at, shares_at}
@@ -16,8 +17,8 @@ use Rattle.sshcore.specs.Tries.{session_known, tried_at}
 
 -- the text of the peer's version line, the payload of its first KEXINIT, the algorithms chosen, the form of shares in 30 and
 -- 31, the session identifier, the number of the next request (from 1), what is left of the plan, what is
--- reached of the methods, whether the endpoint is strict, and whether no payload stood before; nothing stands for what isn't
--- known yet
+-- reached of the methods, whether the endpoint is strict, whether no payload stood before, and how many bytes of packets that say
+-- nothing may still come, where there is a limit; nothing stands for what isn't known yet
 pub record Known : Type 0 where
   pub version : List ℕ
   pub kexinit : List ℕ
@@ -29,6 +30,7 @@ pub record Known : Type 0 where
   pub reached : ReachedData
   pub strict : Bool
   pub first : Bool
+  pub allowance : Option ℕ
 
 -- what is left of the plan, and whether a query waits for its answer
 abbrev pub left_at : Side → ConfigData → Units → List AttemptData
@@ -49,4 +51,5 @@ known_at setup version before = record {
   reached = reached_after nothing_reached (tried_at setup version before);
   strict = strict_at setup.role setup.config before;
   first = length before == 0;
+  allowance = allowance_at setup.role setup.config before;
 }

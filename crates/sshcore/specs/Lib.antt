@@ -6,6 +6,7 @@ pub mod Counting
 pub mod Exchange
 pub mod Plan
 pub mod Reached
+pub mod IgnoredLimit
 pub mod Tries
 pub mod Known
 pub mod Table
@@ -26,14 +27,17 @@ pub mod ConfigView
 pub mod ConfigRules
 pub mod AttemptProps
 pub mod ConfigTests
+pub mod SuiteFit
 pub mod Redrawn
 pub mod EndpointConfig
+pub mod MadeWith
 pub mod Chosen
 pub mod ChosenView
 pub mod NamesView
 pub mod Made
 pub mod Authenticating
 pub mod StateData
+pub mod Shown
 pub mod Brings
 pub mod Questions
 pub mod AskedQuestions

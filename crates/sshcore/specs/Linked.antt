@@ -123,7 +123,7 @@ pub record OnlyOpenAnswer (m : SuiteData) (i : Incoming) (piece : List ℕ) (res
       → (result ≡ Err (fault.Packet f)) ⊎ (result ≡ Err fault.Memory)
 
 -- How what it opens with is left: with all unfinished bytes; after a packet with none, the next number, in 32 bits, and one packet
--- more; after a refusal with the fault, for good.
+-- more; after a refusal with the fault, which is told from then on with nothing changed, and with one packet more at the most.
 abbrev pub LinkLeaves : SuiteData → Incoming → List ℕ → Result PacketStep LinkFault → Incoming → Type 0
 LinkLeaves m i piece (Ok More) new =
     (packet_reader_data new.reader ≡ record (packet_reader_data i.reader) { held = (packet_reader_data i.reader).held ++ piece }) × (new.opened ≡ i.opened) × LinkWaits m new
@@ -131,8 +131,10 @@ LinkLeaves m i piece (Ok (Payload payload seq used)) new =
     (packet_reader_data new.reader ≡ record (packet_reader_data i.reader) { held = []; seq = ((packet_reader_data i.reader).seq + 1) % 2 ^ 32 }) × (new.opened ≡ i.opened + 1) × LinkWaits m new
 LinkLeaves m i piece (Err fault.Payload) new = ⊥
 LinkLeaves m i piece (Err fault.UsedUp) new = ⊥
-LinkLeaves m i piece (Err (fault.Packet f)) new = packet_reader_data new.reader ≡ record (packet_reader_data i.reader) { held = []; fault = Some f }
-LinkLeaves m i piece (Err fault.Memory) new = packet_reader_data new.reader ≡ record (packet_reader_data i.reader) { held = []; fault = Some packet_fault.Memory }
+LinkLeaves m i piece (Err (fault.Packet f)) new =
+    (packet_reader_data new.reader ≡ record (packet_reader_data i.reader) { held = []; fault = Some f }) × (new.opened ≤ i.opened + 1)
+LinkLeaves m i piece (Err fault.Memory) new =
+    (packet_reader_data new.reader ≡ record (packet_reader_data i.reader) { held = []; fault = Some packet_fault.Memory }) × (new.opened ≤ i.opened + 1)
 
 -- What is sealed with these is opened with those: the keys and the next number are the same, and no packet is unfinished.
 pub record AreLinked (o : Outgoing) (i : Incoming) : Type 0 where

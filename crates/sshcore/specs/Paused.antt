@@ -1,6 +1,6 @@
 -- An asking endpoint that is paused: what changes of it, without what it borrows.
 
-use Rattle.std.specs.Prelude.{◌≡◌, ◌-◌, ℕ, List, [], Option, drop, length}
+use Rattle.std.specs.Prelude.{◌≡◌, ◌-◌, ℕ, List, [], ◌∷◌, Option, drop, length}
 use Rattle.sshneg.specs.declared.side.Side.{Side}
 use Rattle.sshpacket.specs.Suite.{SuiteData}
 use Rattle.sshcore.specs.declared.draws.Draws.{Draws}
@@ -16,11 +16,13 @@ use Rattle.sshcore.specs.Questions.{QuestionData}
 use Rattle.sshcore.specs.StateData.{StateData, left_of, state_data}
 use Rattle.sshcore.specs.Unread.{AskingStands, IsAskingEndpoint}
 
--- the draws of its connection, its role, and what it keeps, which no layer above opens; how many attempts are left of its plan,
--- since it has none of them; and the packet that waits for its answer, where one does
-pub record PausedData : Type 0 where
+-- the draws of its connection, its role, its config with these draws, and its suite, each alone in a list; what it keeps, which no layer
+-- above opens; how many attempts are left of its plan, since it has none of them; and the packet that waits for its answer, where one does
+pub record PausedData (S : Type 0) : Type 0 where
   pub draws : Draws
   pub role : Side
+  pub configs : List ConfigData
+  pub suites : List S
   pub input : Input
   pub state : State
   pub left : ℕ
@@ -35,35 +37,39 @@ abbrev pub kept_with : List AttemptData → State → ℕ → StateData
 kept_with plan state left = with_left (left_of state.confirmed (drop (length plan - left) plan)) (state_data state)
 
 -- what it keeps, where this is its config
-abbrev pub kept_by : ConfigData → PausedData → StateData
+abbrev pub kept_by : {S : Type 0} → ConfigData → PausedData S → StateData
 kept_by party p = kept_with party.plan p.state p.left
 
-abbrev pub paused_end : PausedData → EndData
+abbrev pub paused_end : {S : Type 0} → PausedData S → EndData
 paused_end p = end_data p.state.end
 
 -- what it asks
-abbrev pub asked_paused : PausedData → Option QuestionData
+abbrev pub asked_paused : {S : Type 0} → PausedData S → Option QuestionData
 asked_paused p = asked_at (paused_end p) p.waiting
 
--- It may be resumed with a suite of this meaning, in this role and with this config.
-pub record FitsPaused (m : SuiteData) (role : Side) (party : ConfigData) (p : PausedData) : Type 0 where
+-- It may be resumed in this role, with this config and this suite, which are those with which it was paused.
+pub record FitsPaused {S : Type 0} (meaning : S → SuiteData) (role : Side) (party : ConfigData) (suite : S) (p : PausedData S) : Type 0 where
   pub is_role : p.role ≡ role
-  pub fits : IsAskingEndpoint m role party (kept_by party p) p.input p.waiting
+  pub is_config : p.configs ≡ party ∷ []
+  pub is_suite : p.suites ≡ suite ∷ []
+  pub fits : IsAskingEndpoint (meaning suite) role party (kept_by party p) p.input p.waiting
 
 -- A paused endpoint has received and sent these bytes, in this setup.
-abbrev pub PausedAfter : Setup → PausedData → List ℕ → List ℕ → Type 0
+abbrev pub PausedAfter : {S : Type 0} → Setup → PausedData S → List ℕ → List ℕ → Type 0
 PausedAfter setup p h s = AskingStands setup (kept_by setup.config p) p.input p.waiting h s
 
 -- This endpoint is paused. Once it has ended nothing reads the rest of its plan, which is then not kept.
-pub record IsPaused {S : Type 0} (e : AskingData S) (p : PausedData) : Type 0 where
+pub record IsPaused {S : Type 0} (e : AskingData S) (p : PausedData S) : Type 0 where
   pub same_role : p.role ≡ e.role
+  pub same_config : p.configs ≡ e.party ∷ []
+  pub same_suite : p.suites ≡ e.suite ∷ []
   pub same_input : p.input ≡ e.input
   pub same_waiting : p.waiting ≡ e.waiting
   pub same_state : with_left [] (kept_by e.party p) ≡ with_left [] (state_data e.state)
   pub same_plan : IsOngoing (asking_end e) → kept_by e.party p ≡ state_data e.state
 
 -- It is resumed, in this role, with this config and this suite.
-pub record IsResumed {S : Type 0} (role : Side) (party : ConfigData) (suite : S) (p : PausedData) (e : AskingData S) : Type 0 where
+pub record IsResumed {S : Type 0} (role : Side) (party : ConfigData) (suite : S) (p : PausedData S) (e : AskingData S) : Type 0 where
   pub is_role : e.role ≡ role
   pub is_config : e.party ≡ party
   pub is_suite : e.suite ≡ suite

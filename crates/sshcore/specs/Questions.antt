@@ -1,9 +1,8 @@
 -- What is asked of whoever runs an endpoint before it can answer a packet: a client asks whether the host key is trusted (RFC 4253
--- section 8), a server whether a request is successful by what it proves, or whether the key of a query would do (RFC 4252 sections
--- 5 and 7). A packet that asks nothing is answered alike whatever would be decided.
+-- section 8), a server whether what a request claims is accepted, or whether the key of a query would do (RFC 4252 sections 5 and 7).
+-- A signature is verified after a yes. A packet that asks nothing is answered alike whatever would be decided.
 
 use Rattle.std.specs.Prelude.{ℕ, ◌&&◌, Bool, false, nat_le, if◌then◌else◌, List, codes, length, Option, None, Some, Result, Ok}
-use Rattle.sshwire.specs.TypeReadings.{is_name}
 use Rattle.sshmsg.specs.declared.fault.MsgFault.{MsgFault}
 use Rattle.sshmsg.specs.MessageData.{KexEcdhReply, KexdhReply, MessageData, MethodData, PublicKeyQuery, UserauthRequest}
 use Rattle.sshmsg.specs.Messages.{message_in}
@@ -21,9 +20,9 @@ use Rattle.sshcore.specs.Plan.{is_waiting}
 use Rattle.sshcore.specs.Requests.{is_last_try}
 use Rattle.sshcore.specs.StateData.{StateData}
 use Rattle.sshcore.specs.Table.{line_by}
-use Rattle.sshcore.specs.Tries.{proof_in}
+use Rattle.sshcore.specs.Tries.{claimed_proof, is_supported}
 
--- a question: of a host key, by its algorithm and blob; or of a request or query, by its number from 1, user, service and proof
+-- a question: of a host key, by its algorithm and blob; or of a request or query, by its number from 1, user, service, and what it claims
 pub data QuestionData : Type 0 where
   HostKeyQuestion : List ℕ → List ℕ → QuestionData
   UserQuestion : ℕ → List ℕ → List ℕ → ProofData → QuestionData
@@ -38,23 +37,22 @@ abbrev pub decided_by : DecisionsData → Option QuestionData → Bool
 decided_by d None = false
 decided_by d (Some question) = decided d question
 
--- A query asks unless it is the last try, if its method is listed, its algorithm is a name, and the key isn't longer than one that a
--- suite answers (profile).
-abbrev pub query_question : ConfigData → Known → List ℕ → List ℕ → List ℕ → List ℕ → Option QuestionData
-query_question party known user service algorithm key =
+-- A query asks unless it is the last try, if its method is listed, its algorithm is supported, and the key isn't longer than one that
+-- a suite answers (profile).
+abbrev pub query_question : SuiteData → ConfigData → Known → List ℕ → List ℕ → List ℕ → List ℕ → Option QuestionData
+query_question m party known user service algorithm key =
     if is_last_try party known then None
-    else if is_in party.methods (codes "publickey") && (is_name algorithm && nat_le (length key) BLOB_LIMIT)
+    else if is_in party.methods (codes "publickey") && (is_supported m algorithm && nat_le (length key) BLOB_LIMIT)
     then Some (UserQuestion known.request user service (KeyProof algorithm key)) else None
 
--- a request asks if it proves something
-abbrev pub proof_question : ℕ → List ℕ → List ℕ → Option ProofData → Option QuestionData
-proof_question number user service None = None
-proof_question number user service (Some proof) = Some (UserQuestion number user service proof)
+-- a request asks if it claims something
+abbrev pub claim_question : ℕ → List ℕ → List ℕ → Option ProofData → Option QuestionData
+claim_question number user service None = None
+claim_question number user service (Some proof) = Some (UserQuestion number user service proof)
 
 abbrev pub method_question : SuiteData → ConfigData → Known → List ℕ → List ℕ → MethodData → Option QuestionData
-method_question m party known user service (PublicKeyQuery algorithm key) = query_question party known user service algorithm key
-method_question m party known user service method =
-    proof_question known.request user service (proof_in m party known.session user service method)
+method_question m party known user service (PublicKeyQuery algorithm key) = query_question m party known user service algorithm key
+method_question m party known user service method = claim_question known.request user service (claimed_proof m party method)
 
 -- only for a service that the server has
 unfoldable pub request_question : SuiteData → ConfigData → Known → List ℕ → List ℕ → MethodData → Option QuestionData

@@ -1,7 +1,7 @@
 -- What an endpoint of either role sends and how it ends, by the units that it received. In `reply_at` the payloads before a place
 -- stand without the version; from `unit_reply` on `before` and `units` have the text of the version line in front.
 
-use Rattle.std.specs.Prelude.{◌≡◌, ◌≢◌, ℕ, List, [], ◌∷◌, ◌++◌, Option, None, Some, Result, Ok, Err}
+use Rattle.std.specs.Prelude.{◌≡◌, ◌≢◌, ℕ, if◌then◌else◌, List, [], ◌∷◌, ◌++◌, Option, None, Some, Result, Ok, Err}
 use Rattle.sshmsg.specs.declared.fault.MsgFault.{MsgFault}
 use Rattle.sshmsg.specs.MessageData.{MessageData, Unimplemented}
 use Rattle.sshmsg.specs.Messages.{message_in}
@@ -16,6 +16,7 @@ use Rattle.sshcore.specs.declared.end.Fault.{Fault}
 use Rattle.sshcore.specs.declared.end.Fault.TheVariants as fault
 use Rattle.sshcore.specs.declared.table.Line.{Line}
 use Rattle.sshcore.specs.declared.table.Line.TheVariants as line
+use Rattle.sshcore.specs.IgnoredLimit.{overspends}
 use Rattle.sshcore.specs.Before.{expects_guess, strict_at}
 use Rattle.sshcore.specs.Counting.{number_in}
 use Rattle.sshcore.specs.EndData.{EndData, Open, Reply, fails, goes}
@@ -30,12 +31,16 @@ abbrev pub read_reply : Setup → Known → ℕ → Result MessageData MsgFault 
 read_reply setup known n (Ok content) = work setup known content
 read_reply setup known n (Err e) = fails (fault.Malformed n)
 
+-- a payload that says nothing is taken only within the allowance, be it well-formed or not
+abbrev pub allowed : Known → List ℕ → Reply → Reply
+allowed known payload reply = if overspends known.allowance payload then fails fault.TooMuchIgnored else reply
+
 -- what a line of the table says of a packet with this number; UNIMPLEMENTED tells it (RFC 4253 section 11.4)
 unfoldable pub line_reply : Setup → Known → ℕ → Line → List ℕ → Reply
-line_reply setup known packet line.Reads payload = read_reply setup known (kind payload) (message_in known.shares payload)
+line_reply setup known packet line.Reads payload = allowed known payload (read_reply setup known (kind payload) (message_in known.shares payload))
 line_reply setup known packet line.Drops payload = goes []
 line_reply setup known packet line.Deviates payload = fails (fault.Strict (kind payload))
-line_reply setup known packet line.Unknown payload = goes (written_message (Unimplemented packet) ∷ [])
+line_reply setup known packet line.Unknown payload = allowed known payload (goes (written_message (Unimplemented packet) ∷ []))
 line_reply setup known packet line.Unexpected payload = fails (fault.Unexpected (kind payload))
 
 -- the line that decides at a place

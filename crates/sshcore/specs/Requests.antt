@@ -1,7 +1,6 @@
 -- What a server answers to a request of authentication: RFC 4252 sections 5 to 8. The order of the checks is profile.
 
 use Rattle.std.specs.Prelude.{ℕ, ◌&&◌, Bool, false, nat_le, if◌then◌else◌, List, [], ◌∷◌, codes, length}
-use Rattle.sshwire.specs.TypeReadings.{is_name}
 use Rattle.sshmsg.specs.MessageData.{MessageData, MethodData, PublicKeyQuery, UserauthFailure, UserauthPkOk, UserauthSuccess}
 use Rattle.sshmsg.specs.Written.{written_message}
 use Rattle.sshneg.specs.ChoiceReadings.{is_in}
@@ -13,7 +12,7 @@ use Rattle.sshcore.specs.EndData.{Authenticated, Reply, fails, goes}
 use Rattle.sshcore.specs.Known.{Known}
 use Rattle.sshcore.specs.EndpointParts.{ConfigData, DecisionsData, KeyProof}
 use Rattle.sshcore.specs.Reached.{is_complete, reached_after_one}
-use Rattle.sshcore.specs.Tries.{is_successful_at, tried_with}
+use Rattle.sshcore.specs.Tries.{is_successful_at, is_supported, tried_with}
 
 -- the request is successful
 abbrev pub is_successful : SuiteData → DecisionsData → ConfigData → Known → List ℕ → List ℕ → MethodData → Bool
@@ -28,16 +27,16 @@ is_last_try party known = nat_le party.tries known.request
 abbrev pub more_reply : ConfigData → Known → MessageData → Reply
 more_reply party known answer = if is_last_try party known then fails fault.TooManyTries else goes (written_message answer ∷ [])
 
--- The key of a query would do: its method is listed, its algorithm is a name, the key isn't longer than one that a suite answers
+-- The key of a query would do: its method is listed, its algorithm is supported, the key isn't longer than one that a suite answers
 -- (profile), and the decision on it is yes for the number of this request.
-abbrev pub would_do : DecisionsData → ConfigData → Known → List ℕ → List ℕ → List ℕ → List ℕ → Bool
-would_do d party known user service algorithm key =
-    is_in party.methods (codes "publickey") && (is_name algorithm
+abbrev pub would_do : SuiteData → DecisionsData → ConfigData → Known → List ℕ → List ℕ → List ℕ → List ℕ → Bool
+would_do m d party known user service algorithm key =
+    is_in party.methods (codes "publickey") && (is_supported m algorithm
     && (nat_le (length key) BLOB_LIMIT && d.user known.request user service (KeyProof algorithm key)))
 
-abbrev pub query_answer : DecisionsData → ConfigData → Known → List ℕ → List ℕ → List ℕ → List ℕ → MessageData
-query_answer d party known user service algorithm key =
-    if would_do d party known user service algorithm key then UserauthPkOk algorithm key else UserauthFailure party.methods false
+abbrev pub query_answer : SuiteData → DecisionsData → ConfigData → Known → List ℕ → List ℕ → List ℕ → List ℕ → MessageData
+query_answer m d party known user service algorithm key =
+    if would_do m d party known user service algorithm key then UserauthPkOk algorithm key else UserauthFailure party.methods false
 
 -- After a request all required methods are reached (RFC 4252 section 5.1; that they are so in an unbroken run of requests for
 -- one user and one service is profile).
@@ -53,7 +52,7 @@ tried_reply party known user service method successful =
     else more_reply party known (UserauthFailure party.methods successful)
 
 abbrev pub method_reply : SuiteData → DecisionsData → ConfigData → Known → List ℕ → List ℕ → MethodData → Reply
-method_reply m d party known user service (PublicKeyQuery algorithm key) = more_reply party known (query_answer d party known user service algorithm key)
+method_reply m d party known user service (PublicKeyQuery algorithm key) = more_reply party known (query_answer m d party known user service algorithm key)
 method_reply m d party known user service method = tried_reply party known user service method (is_successful m d party known user service method)
 
 -- USERAUTH_REQUEST (RFC 4252 sections 5, 5.1 and 7): first the service, then the request, then the tries

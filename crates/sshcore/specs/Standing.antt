@@ -1,6 +1,6 @@
 -- Where an endpoint stands between two payloads: its phase, whether the packet of a wrong guess is due, and what it knows.
 
-use Rattle.std.specs.Prelude.{◌≡◌, ℕ, ◌+◌, ◌==◌, Bool, true, false, if◌then◌else◌, List, [], Some}
+use Rattle.std.specs.Prelude.{◌≡◌, ℕ, ◌+◌, ◌==◌, Bool, true, false, if◌then◌else◌, List, [], None, Some}
 use Rattle.sshwire.specs.declared.share_form.ShareForm.TheVariants.{Mpint}
 use Rattle.sshmsg.specs.declared.numbers.TheConstants.{SSH_MSG_KEXINIT, SSH_MSG_NEWKEYS, SSH_MSG_USERAUTH_REQUEST}
 use Rattle.sshmsg.specs.MessageData.{KexInitData}
@@ -13,6 +13,7 @@ use Rattle.sshpacket.specs.Stream.{Units}
 use Rattle.sshpacket.specs.Suite.{SuiteData}
 use Rattle.sshcore.specs.declared.table.Phase.{Phase}
 use Rattle.sshcore.specs.declared.table.Phase.TheVariants as phase
+use Rattle.sshcore.specs.IgnoredLimit.{allowance_after}
 use Rattle.sshcore.specs.Before.{expects_guess, offered, stood, strict_towards}
 use Rattle.sshcore.specs.Exchange.{choice_with, chosen_or, exchange_with, no_algorithms, shares_by}
 use Rattle.sshcore.specs.Known.{Known, known_at}
@@ -50,6 +51,7 @@ nothing_known party version = record {
   reached = nothing_reached;
   strict = false;
   first = true;
+  allowance = None;
 }
 
 -- what is known after the first KEXINIT, which is this payload and offers this
@@ -65,10 +67,12 @@ after_offer m role party known payload peer = record {
   reached = known.reached;
   strict = strict_towards role party.strict (Some peer);
   first = false;
+  allowance = known.allowance;
 }
 
 -- What is known after a payload that is neither dropped nor the first KEXINIT nor the exchange message: a request counts, and
--- may reach a method; after an answer the attempt itself or the next one is made.
+-- may reach a method; after an answer the attempt itself or the next one is made; from NEWKEYS on the limit is what may come that
+-- says nothing.
 abbrev pub after_payload : SuiteData → DecisionsData → ConfigData → Known → List ℕ → Known
 after_payload m d party known payload = record known {
   request = if kind payload == SSH_MSG_USERAUTH_REQUEST then known.request + 1 else known.request;
@@ -76,6 +80,7 @@ after_payload m d party known payload = record known {
   reached = if kind payload == SSH_MSG_USERAUTH_REQUEST
       then reached_after known.reached (tried_in m d party known.session known.request payload) else known.reached;
   first = false;
+  allowance = if kind payload == SSH_MSG_NEWKEYS then party.ignored_limit else allowance_after known.allowance payload;
 }
 
 -- what is hashed, once this payload is the exchange message

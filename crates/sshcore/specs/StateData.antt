@@ -76,6 +76,7 @@ state_data s = record {
     reached = reached_data s.reached;
     strict = s.strict;
     first = s.first;
+    allowance = s.allowance;
   };
   carried = record { pending = s.pending; own_version = s.own_version.items; host_key = s.host_key.items; user_key = user_key_data s.user_key };
   sending = record { keys = s.keys_out; number = s.number_out };

@@ -45,6 +45,11 @@ takes_extensions _ = false
 abbrev pub is_unknown : ℕ → Bool
 is_unknown n = within 8 19 n || (within 22 29 n || (within 32 49 n || (within 54 59 n || within 61 79 n)))
 
+-- Numbers of messages that say nothing to an endpoint: what may come at any time, EXT_INFO, and what has no meaning here. Where one
+-- is taken the endpoint goes on as it was.
+abbrev pub is_ignorable : ℕ → Bool
+is_ignorable n = is_ignored n || (n == SSH_MSG_EXT_INFO || is_unknown n)
+
 -- The table; `guess` says that the packet of a wrong guess is due, `waits` that a query waits for its answer. Its lines: a DISCONNECT; that packet, where strictness
 -- doesn't rule; that packet, with a number of the method's own; what strictness doesn't require; what leaves the phase; what
 -- is of authentication; what is ignored; EXT_INFO; what has no meaning; and what has no use.

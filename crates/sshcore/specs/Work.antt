@@ -1,18 +1,20 @@
 -- What an endpoint answers to a message that has a place: RFC 4253 sections 7 to 11, RFC 4252. The order of the checks is
 -- profile.
 
-use Rattle.std.specs.Prelude.{ℕ, ◌&&◌, not, if◌then◌else◌, List, [], ◌∷◌, codes, Option, None, Some, Result, Ok, Err}
+use Rattle.std.specs.Prelude.{ℕ, ◌&&◌, Bool, false, true, not, if◌then◌else◌, List, [], ◌∷◌, codes, Option, None, Some, Result, Ok, Err}
 use Rattle.std.specs.Str.{bytes_eq}
 use Rattle.sshwire.specs.declared.share_form.ShareForm.{ShareForm}
 use Rattle.sshwire.specs.declared.share_form.ShareForm.TheVariants.{Hybrid, Mpint, OctetString}
 use Rattle.sshmsg.specs.declared.numbers.TheConstants.{SSH_MSG_KEXINIT, SSH_MSG_SERVICE_ACCEPT}
-use Rattle.sshmsg.specs.MessageData.{Disconnect, KexEcdhInit, KexEcdhReply, KexInit, KexInitData, KexdhInit, KexdhReply, MessageData, NewKeys, ServiceAccept, ServiceRequest, UserauthBanner, UserauthFailure, UserauthPkOk, UserauthRequest, UserauthSuccess}
+use Rattle.sshwire.specs.Types.{names_body}
+use Rattle.sshmsg.specs.MessageData.{Disconnect, ExtInfo, KexEcdhInit, KexEcdhReply, KexInit, KexInitData, KexdhInit, KexdhReply, MessageData, NewKeys, ServiceAccept, ServiceRequest, UserauthBanner, UserauthFailure, UserauthPkOk, UserauthRequest, UserauthSuccess}
 use Rattle.sshmsg.specs.Written.{written_message}
 use Rattle.sshneg.specs.declared.choice.NoCommon.{NoCommon}
 use Rattle.sshneg.specs.declared.side.Side.{Side}
 use Rattle.sshneg.specs.declared.side.Side.TheVariants.{Client, Server}
+use Rattle.sshneg.specs.ChoiceReadings.{is_in}
 use Rattle.sshneg.specs.Derivations.{ExchangeData}
-use Rattle.sshneg.specs.ExchangeEnd.{exchange_hash}
+use Rattle.sshneg.specs.ExchangeEnd.{exchange_hash, offer_in}
 use Rattle.sshneg.specs.Fields.{AlgorithmsData}
 use Rattle.sshneg.specs.Markers.{first_name, methods}
 use Rattle.sshneg.specs.Strictness.{is_right_guess}
@@ -75,14 +77,35 @@ kexinit_reply m role party known peer =
     if strict_towards role party.strict (Some peer) && not known.first then fails (fault.Strict SSH_MSG_KEXINIT)
     else chosen_reply m role party peer (choice_with m role party.offer (Some peer))
 
+-- whether a client's offer asks for extensions: the marker stands in its kex list (RFC 8308 section 2.1)
+abbrev pub asks_by : Option KexInitData → Bool
+asks_by None = false
+asks_by (Some peer) = is_in peer.kex_algorithms (codes "ext-info-c")
+
+abbrev pub asks_for_extensions : List ℕ → Bool
+asks_for_extensions kexinit = asks_by (offer_in kexinit)
+
+abbrev pub server_sig_algs : List ℕ
+server_sig_algs = codes "server-sig-algs"
+
+-- What a server tells a client that asks, right after its NEWKEYS: the algorithms of users' keys that it verifies, if it has a
+-- list of them (RFC 8308 sections 2.2, 2.4 and 3.1).
+abbrev pub extensions_by : List (List ℕ) → Bool → Units
+extensions_by [] asks = []
+extensions_by (name ∷ names) false = []
+extensions_by (name ∷ names) true = written_message (ExtInfo ((server_sig_algs, names_body (name ∷ names)) ∷ [])) ∷ []
+
+abbrev pub told_by : ConfigData → Known → Units
+told_by party known = extensions_by party.signature_algorithms (asks_for_extensions known.kexinit)
+
 -- The first message of the exchange at a server: its answer to the client's share, then the signature of the exchange hash,
--- and NEWKEYS (RFC 4253 sections 8 and 7.3).
+-- and NEWKEYS (RFC 4253 sections 8 and 7.3), and what it tells a client that asks.
 abbrev pub answered_by : SuiteData → ConfigData → Known → ExchangeData → Option ResponseData → Reply
 answered_by m party known x None = fails fault.Exchange
 answered_by m party known x (Some answer) =
     goes (written_message (reply_in known.shares x.host_key x.server_share
     (m.sign known.algorithms.host_key (secret_of party.host_keys known.algorithms.host_key) (exchange_hash m known.algorithms.kex x)))
-    ∷ written_message NewKeys ∷ [])
+    ∷ written_message NewKeys ∷ told_by party known)
 
 unfoldable pub init_reply : SuiteData → Side → ConfigData → Known → MessageData → Reply
 init_reply m role party known message =

@@ -1,14 +1,11 @@
 //! What a packet asks before it can be answered.
 
-ghost use Rattle.std.specs.Prelude.{◌≡◌, ◌≤◌, IfOk, List, Ok, Some, length, option_map, ℕ};
-ghost use Rattle.sshwire.specs.declared.limits.TheConstants.{NAME_LIMIT};
+ghost use Rattle.std.specs.Prelude.{◌≡◌, IfOk, List, Ok, Some, option_map, ℕ};
 ghost use Rattle.sshmsg.specs.Messages.{Spells, message_in};
 ghost use Rattle.sshmsg.specs.Numbers.{kind};
 ghost use Rattle.sshmsg.specs.View.{message_data, method_data};
-ghost use Rattle.sshpacket.specs.declared.limits.TheConstants.{PACKET_LIMIT};
 ghost use Rattle.sshcore.specs.declared.table.Line.TheVariants as line;
 ghost use Rattle.sshcore.specs.declared.table.Phase.TheVariants as phase;
-ghost use Rattle.sshcore.specs.Authenticating.{FitsMethod};
 ghost use Rattle.sshcore.specs.EndData.{Open, end_data};
 ghost use Rattle.sshcore.specs.EndpointConfig.{config_data, role_of};
 ghost use Rattle.sshcore.specs.EndpointPartsView.{proof_data};
@@ -21,6 +18,7 @@ ghost use Rattle.sshcore.specs.Table.{line_by};
 use crate::config::Config;
 use crate::decisions::Proof;
 use crate::packet_lines::{kind, line_of};
+use crate::proving::{claimed_proof, supported_name};
 use crate::question::{Asked, AskedProof};
 use crate::state::State;
 use crate::table::Line;
@@ -28,7 +26,7 @@ use sshmsg::{
     Message, Method, MsgFault, SSH_MSG_KEXDH_REPLY, SSH_MSG_USERAUTH_REQUEST, read_exchange,
 };
 use sshpacket::{BLOB_LIMIT, Suite};
-use sshwire::{Memory, as_name};
+use sshwire::Memory;
 use std::alloc::Global;
 
 impl State<'_> {
@@ -41,7 +39,6 @@ impl State<'_> {
         payload: &[u8],
     ) -> Result<Option<Asked>, Memory>
         requires open { end_data self.now.end ≡ Open }
-        requires short { length payload.now ≤ PACKET_LIMIT }
         ensures { IfOk result (λ q. option_map asked_data q
             ≡ question_at (S.meaning suite.now) (role_of config.now) (config_data config.now) (state_data self.now) payload.now) }
     {
@@ -70,7 +67,6 @@ impl State<'_> {
         suite: &S,
         payload: &[u8],
     ) -> Result<Option<Asked>, Memory>
-        requires short { length payload.now ≤ PACKET_LIMIT }
         requires reads { line_by (role_of config.now) self.now.phase self.now.strict self.now.guess (is_waiting (state_data self.now).known.left) (kind payload.now) ≡ line.Reads }
         ensures { IfOk result (λ q. option_map asked_data q
             ≡ message_question (S.meaning suite.now) (role_of config.now) (config_data config.now) (state_data self.now).known (message_in self.now.shares payload.now)) }
@@ -90,7 +86,6 @@ impl State<'_> {
         payload: &[u8],
         message: &Message<'_>,
     ) -> Result<Option<Asked>, Memory>
-        requires short { length payload.now ≤ PACKET_LIMIT }
         requires reads { line_by (role_of config.now) self.now.phase self.now.strict self.now.guess (is_waiting (state_data self.now).known.left) (kind payload.now) ≡ line.Reads }
         requires spelled { Spells self.now.shares (message_data message.now) payload.now }
         ensures { IfOk result (λ q. option_map asked_data q
@@ -98,7 +93,6 @@ impl State<'_> {
     {
         sshmsg::messages_law();
         sshmsg::numbers_law();
-        sshmsg::lengths_law();
         match message {
             Message::KexdhReply { host_key, .. } => self.asked_host_key(host_key),
             Message::KexEcdhReply { host_key, .. } => self.asked_host_key(host_key),
@@ -131,57 +125,50 @@ impl State<'_> {
         service: &[u8],
         method: &Method<'_>,
     ) -> Result<Option<Asked>, Memory>
-        requires user { length user.now ≤ PACKET_LIMIT }
-        requires method { FitsMethod (method_data method.now) }
         ensures { IfOk result (λ q. option_map asked_data q
             ≡ request_question (S.meaning suite.now) (config_data config.now) (state_data self.now).known user.now service.now (method_data method.now)) }
     {
         let Some(service) = config.service(service) else {
             return Ok(None);
         };
-        match self.proof_asked(config, suite, user, service, method)? {
+        match self.proof_asked(config, suite, method) {
             None => Ok(None),
             Some(proof) => self.asked_proof(user, service, &proof),
         }
     }
 
-    /// The proof that a request asks about, or the key that a query does.
+    /// What a request claims, or the key of a query: it is asked about.
     fn proof_asked<'m, S: Suite>(
         &self,
         config: &Config<'_>,
         suite: &S,
-        user: &str,
-        service: &str,
         method: &Method<'m>,
-    ) -> Result<Option<Proof<'m>>, Memory>
-        requires user { length user.now ≤ PACKET_LIMIT }
-        requires service { length service.now ≤ NAME_LIMIT }
-        requires method { FitsMethod (method_data method.now) }
-        ensures { IfOk result (λ o. option_map (λ proof. UserQuestion self.now.request user.now service.now (proof_data proof)) o
-            ≡ method_question (S.meaning suite.now) (config_data config.now) (state_data self.now).known user.now service.now (method_data method.now)) }
+    ) -> Option<Proof<'m>>
+        ensures { (user service : List ℕ) → option_map (λ proof. UserQuestion self.now.request user service (proof_data proof)) result
+            ≡ method_question (S.meaning suite.now) (config_data config.now) (state_data self.now).known user service (method_data method.now) }
     {
         if let Method::PublicKeyQuery { algorithm, key } = method {
-            return Ok(self.key_asked(config, algorithm, key));
+            return self.key_asked(config, suite, algorithm, key);
         }
-        self.proof_in(config, suite, user, service, method)
+        claimed_proof(config, suite, method)
     }
 
     /// The key that a query asks about, under the name of its algorithm: not at the last try, and only if its
-    /// method is listed, the algorithm is a name, and the key isn't longer than one that a suite answers.
-    fn key_asked<'m>(
+    /// method is listed, the algorithm is supported, and the key isn't longer than one that a suite answers.
+    fn key_asked<'m, S: Suite>(
         &self,
         config: &Config<'_>,
+        suite: &S,
         algorithm: &'m [u8],
         key: &'m [u8],
     ) -> Option<Proof<'m>>
         ensures { (user service : List ℕ) → option_map (λ proof. UserQuestion self.now.request user service (proof_data proof)) result
-            ≡ query_question (config_data config.now) (state_data self.now).known user service algorithm.now key.now }
+            ≡ query_question (S.meaning suite.now) (config_data config.now) (state_data self.now).known user service algorithm.now key.now }
     {
-        sshwire::names_law();
         if config.tries() <= self.request || !config.lists("publickey") {
             return None;
         }
-        let name = as_name(algorithm)?;
+        let name = supported_name(suite, algorithm)?;
         if key.len() > BLOB_LIMIT {
             return None;
         }
@@ -191,7 +178,7 @@ impl State<'_> {
         })
     }
 
-    /// Whether a request is successful by this proof is asked.
+    /// Whether this is accepted of the user is asked.
     fn asked_proof(
         &self,
         user: &str,

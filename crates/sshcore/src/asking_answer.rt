@@ -1,12 +1,12 @@
 //! What an asking endpoint asks, and how it goes on with the answer.
 
-ghost use Rattle.std.specs.Prelude.{◌≡◌, ◌≢◌, ◌++◌, ℕ, List, [], None, Ok, OnErr, OnOk, Some, is_some, option_map, true};
+ghost use Rattle.std.specs.Prelude.{◌≡◌, ◌++◌, ℕ, List, [], None, Ok, OnErr, OnOk, Some, is_some, option_map, true, false};
 ghost use Rattle.sshpacket.specs.Suite.{SuiteData};
 ghost use Rattle.sshcore.specs.declared.end.Fault.TheVariants as fault;
 ghost use Rattle.sshcore.specs.Asking.{Answered, AskingAfter, AskingBreaks, asked_by, asking_end};
 ghost use Rattle.sshcore.specs.AskingData.{WaitingData, asking_setup};
 ghost use Rattle.sshcore.specs.Brings.{IsOngoing};
-ghost use Rattle.sshcore.specs.EndData.{Failed, Open, end_data};
+ghost use Rattle.sshcore.specs.EndData.{Failed, Open, by_input, end_data};
 ghost use Rattle.sshcore.specs.EndpointConfig.{config_data, role_of};
 ghost use Rattle.sshcore.specs.EndpointParts.{DecisionsData};
 ghost use Rattle.sshcore.specs.Inputs.{CanRead, EndpointStands};
@@ -21,7 +21,7 @@ use crate::asking_endpoint::AskingEndpoint;
 use crate::asking_input::turn;
 use crate::config::Config;
 use crate::end::{End, Fault};
-use crate::given::Listener;
+use crate::given::{Given, Listener};
 use crate::input::Input;
 use crate::question::Question;
 use crate::state::State;
@@ -52,8 +52,9 @@ impl<S: Suite, L: Listener> AskingEndpoint<'_, S, L> {
     }
 
     /// Answers the question, and appends to `out` what is sent to the packet that asked it: by a yes (`allowed`) a client
-    /// trusts the host key, and a server takes a request as successful, or the key of a query as one that would do.
-    /// Then go on with what [`feed`](AskingEndpoint::feed) didn't use.
+    /// trusts the host key, and a server takes a request as successful, unless it is signed and the signature, which is
+    /// verified now, is wrong; or the key of a query as one that would do. By a no nothing is verified. Then go on with
+    /// what [`feed`](AskingEndpoint::feed) didn't use.
     ///
     /// Where nothing is asked the endpoint doesn't change, and nothing is appended. Answers `Memory` where an
     /// allocation failed: the endpoint has then failed, and `out` is unchanged.
@@ -62,6 +63,8 @@ impl<S: Suite, L: Listener> AskingEndpoint<'_, S, L> {
         ensures memory { OnErr result ((asking_end self.new ≡ Failed fault.Memory) × (out.new.items ≡ out.old.items) × AskingBreaks S.meaning self.old self.new [] out.old.items out.new.items) }
         // Running out of memory is answered, and never found later.
         ensures kept { OnOk result (asking_end self.new ≡ Failed fault.Memory → asking_end self.old ≡ Failed fault.Memory) }
+        // And no other end comes of it than those of what is received: its owner alone cuts it off or disconnects it.
+        ensures owned { OnOk result (by_input (asking_end self.new) ≡ false → asking_end self.old ≡ asking_end self.new) }
         ensures none { asked_by self.old ≡ None → (result ≡ Ok tt) × (self.new ≡ self.old) × (out.new ≡ out.old) }
     {
         if !self.is_open() {
@@ -90,7 +93,7 @@ impl<S: Suite, L: Listener> AskingEndpoint<'_, S, L> {
     }
 }
 
-/// Answers a packet that waited; where an allocation failed `out` is unchanged.
+/// Answers a packet that waited, by decisions that answer so; where an allocation failed `out` is unchanged.
 fn answer_packet<S: Suite, L: Listener>(
     input: &mut Input,
     state: &mut State<'_>,
@@ -107,20 +110,21 @@ fn answer_packet<S: Suite, L: Listener>(
         × AnswerSteps (S.meaning suite.now) (role_of config.now) (config_data config.now) allowed (waiting_data waiting.now) input.old (state_data state.old) input.new (state_data state.new) [] added) }
     ensures reads { OnOk result (IsOngoing (end_data state.new.end) → CanRead (S.meaning suite.now) input.new) }
     ensures keeps { OnOk result (StillFits (S.meaning suite.now) (config_data config.now) (state_data state.old) (state_data state.new)) }
-    ensures kept { OnOk result (end_data state.new.end ≢ Failed fault.Memory) }
+    ensures kept { OnOk result (by_input (end_data state.new.end) ≡ true) }
     ensures memory { OnErr result (out.new.items ≡ out.old.items) }
 {
     sshpacket::parser_law();
     sshpacket::stream_law();
     sshmsg::numbers_law();
     sshneg::markers_law();
+    let given = Given { allowed, listener };
     let mut sent = Vec::new(state.alloc);
-    state.answer(
+    state.receive(
         config,
         suite,
-        listener,
+        &given,
         &waiting.payload,
-        allowed,
+        waiting.packet,
         &mut sent,
     )?;
     out.extend_from_slice(&sent)?;

@@ -14,6 +14,7 @@ ghost use Rattle.sshcore.specs.Exchange.{algorithms_at};
 ghost use Rattle.sshcore.specs.NamesView.{names_of};
 ghost use Rattle.sshcore.specs.Phases.{past_kexinit, phase_at};
 ghost use Rattle.sshcore.specs.Sessions.{IsSession};
+ghost use Rattle.sshcore.specs.Shown.{ShowsTheSame};
 
 use crate::asking_endpoint::AskingEndpoint;
 use crate::chosen_names::ChosenNames;
@@ -29,6 +30,8 @@ impl<S: Suite, L: Listener> AskingEndpoint<'_, S, L> {
     /// memory.
     pub fn end_of_input(&mut self)
         ensures cuts { asking_end self.old ≡ Open → AskingCuts S.meaning self.old self.new }
+        // What `phase`, `is_strict` and `algorithms` tell is as it was.
+        ensures shows { ShowsTheSame self.old.state self.new.state }
         ensures ended { asking_end self.old ≢ Open → self.new ≡ self.old }
     {
         if self.is_open() {
@@ -52,6 +55,8 @@ impl<S: Suite, L: Listener> AskingEndpoint<'_, S, L> {
         out: &mut Vec<u8>,
     ) -> Result<(), Memory>
         ensures leaves { asking_end self.old ≡ Open → OnOk result (AskingLeaves S.meaning self.old self.new reason description.now out.old.items out.new.items) }
+        // What `phase`, `is_strict` and `algorithms` tell is as it was.
+        ensures shows { OnOk result (ShowsTheSame self.old.state self.new.state) }
         ensures memory { OnErr result ((asking_end self.new ≡ Failed fault.Memory) × (out.new.items ≡ out.old.items) × AskingBreaks S.meaning self.old self.new [] out.old.items out.new.items) }
         ensures ended { asking_end self.old ≢ Open → (result ≡ Ok tt) × (self.new ≡ self.old) × (out.new ≡ out.old) }
     {

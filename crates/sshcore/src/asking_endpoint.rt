@@ -1,12 +1,12 @@
 //! One endpoint that asks and waits, fed with bytes.
 
-ghost use Rattle.std.specs.Prelude.{◌≡◌, ◌≢◌, ◌<◌, ◌≤◌, ◌+◌, ◌*◌, ◌↔◌, ◌++◌, ℕ, IfOk, IsTrue, List, [], None, Ok, OnErr, OnOk, is_some, length, take, true};
+ghost use Rattle.std.specs.Prelude.{◌≡◌, ◌≢◌, ◌<◌, ◌≤◌, ◌+◌, ◌*◌, ◌↔◌, ◌++◌, ℕ, IfOk, IsTrue, List, [], None, Ok, OnErr, OnOk, is_some, length, take, true, false};
 ghost use Rattle.sshneg.specs.declared.side.Side.TheVariants.{Client, Server};
 ghost use Rattle.sshcore.specs.declared.asking_endpoint.Fed.TheVariants as fed;
 ghost use Rattle.sshcore.specs.declared.end.Fault.TheVariants as fault;
 ghost use Rattle.sshcore.specs.Asking.{AskingBreaks, AskingFed, AskingMade, IsReadyForBytes, asked_by, asking_end, asking_turns, bytes_used, is_question};
 ghost use Rattle.sshcore.specs.Brings.{IsOngoing};
-ghost use Rattle.sshcore.specs.EndData.{Failed, Open, end_data};
+ghost use Rattle.sshcore.specs.EndData.{Failed, Open, by_input, end_data};
 ghost use Rattle.sshcore.specs.EndpointConfig.{config_data, role_of};
 ghost use Rattle.sshcore.specs.EndpointParts.{config_of_client, config_of_server};
 ghost use Rattle.sshcore.specs.Inputs.{CanRead, turns_left};
@@ -177,6 +177,8 @@ impl<'a, S: Suite, L: Listener> AskingEndpoint<'a, S, L> {
         ensures memory { OnErr result ((asking_end self.new ≡ Failed fault.Memory) × AskingBreaks S.meaning self.old self.new piece.now out.old.items out.new.items) }
         // Running out of memory is answered, and never found later.
         ensures kept { OnOk result (asking_end self.new ≡ Failed fault.Memory → asking_end self.old ≡ Failed fault.Memory) }
+        // And no other end comes of it than those of what is received: its owner alone cuts it off or disconnects it.
+        ensures owned { OnOk result (by_input (asking_end self.new) ≡ false → asking_end self.old ≡ asking_end self.new) }
         ensures waits { is_some (asked_by self.old) ≡ true → (result ≡ Ok (fed.Asks 0)) × (self.new ≡ self.old) × (out.new ≡ out.old) }
         ensures ended { asking_end self.old ≢ Open → (result ≡ Ok (fed.Used 0)) × (self.new ≡ self.old) × (out.new ≡ out.old) }
     {
@@ -196,7 +198,7 @@ impl<'a, S: Suite, L: Listener> AskingEndpoint<'a, S, L> {
         ensures turns { IfOk result (λ used. asking_turns self.new < asking_turns self.old + 3 * used) }
         ensures nothing { IfOk result (λ used. used ≡ 0 → asked_by self.new ≡ None) }
         ensures memory { OnErr result ((asking_end self.new ≡ Failed fault.Memory) × AskingBreaks S.meaning self.old self.new piece.now out.old.items out.new.items) }
-        ensures kept { OnOk result (asking_end self.new ≢ Failed fault.Memory) }
+        ensures kept { OnOk result (by_input (asking_end self.new) ≡ true) }
     {
         let received = receive(
             &mut self.input,
@@ -269,7 +271,7 @@ fn receive<S: Suite, L: Listener>(
     ensures turns { IfOk result (λ came. turns_left (end_data state.new.end) input.new < turns_left (end_data state.old.end) input.old + 3 * came.used) }
     ensures reads { OnOk result (IsOngoing (end_data state.new.end) → CanRead (S.meaning suite.now) input.new) }
     ensures keeps { OnOk result (StillFits (S.meaning suite.now) (config_data config.now) (state_data state.old) (state_data state.new)) }
-    ensures kept { OnOk result (end_data state.new.end ≢ Failed fault.Memory) }
+    ensures kept { OnOk result (by_input (end_data state.new.end) ≡ true) }
     ensures memory { OnErr result (out.new.items ≡ out.old.items) }
 {
     let mut sent = Vec::new(state.alloc);

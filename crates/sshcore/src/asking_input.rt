@@ -1,13 +1,13 @@
 //! How an endpoint that asks reads its bytes: up to a packet that can't be answered before its question is.
 
-ghost use Rattle.std.specs.Prelude.{◌≡◌, ◌≢◌, ◌+◌, ◌*◌, ◌<◌, ◌≤◌, IfOk, OnOk, [], length, take};
+ghost use Rattle.std.specs.Prelude.{◌≡◌, ◌+◌, ◌*◌, ◌<◌, ◌≤◌, IfOk, OnOk, [], length, take, true};
 ghost use Rattle.sshpacket.specs.PacketReaderData.{ReaderWaits, packet_reader_data};
 ghost use Rattle.sshpacket.specs.Suite.{SuiteData};
 ghost use Rattle.sshcore.specs.declared.end.Fault.TheVariants as failed;
 ghost use Rattle.sshcore.specs.declared.input.Input.TheVariants as input;
 ghost use Rattle.sshcore.specs.Brings.{IsOngoing};
 ghost use Rattle.sshcore.specs.EndpointConfig.{config_data, role_of};
-ghost use Rattle.sshcore.specs.EndData.{Failed, Open, end_data};
+ghost use Rattle.sshcore.specs.EndData.{Failed, Open, by_input, end_data};
 ghost use Rattle.sshcore.specs.Inputs.{CanRead, turns_left};
 ghost use Rattle.sshcore.specs.Keeping.{StillFits};
 ghost use Rattle.sshcore.specs.StateData.{state_data};
@@ -51,7 +51,7 @@ impl Input {
         ensures turns { IfOk result (λ came. turns_left (end_data state.new.end) self.new < turns_left (end_data state.old.end) self.old + 3 * came.used) }
         ensures reads { OnOk result (IsOngoing (end_data state.new.end) → CanRead (S.meaning suite.now) self.new) }
         ensures keeps { OnOk result (StillFits (S.meaning suite.now) (config_data config.now) (state_data state.old) (state_data state.new)) }
-        ensures kept { OnOk result (end_data state.new.end ≢ Failed failed.Memory) }
+        ensures kept { OnOk result (by_input (end_data state.new.end) ≡ true) }
     {
         sshpacket::parser_law();
         sshpacket::stream_law();
@@ -110,7 +110,7 @@ fn ask_packets<S: Suite, L: Listener>(
     ensures used { IfOk result (λ came. (0 < came.used) × (came.used ≤ length piece.now)) }
     ensures reads { OnOk result (IsOngoing (end_data state.new.end) → ReaderWaits (S.meaning suite.now) reader.new) }
     ensures keeps { OnOk result (StillFits (S.meaning suite.now) (config_data config.now) (state_data state.old) (state_data state.new)) }
-    ensures kept { OnOk result (end_data state.new.end ≢ Failed failed.Memory) }
+    ensures kept { OnOk result (by_input (end_data state.new.end) ≡ true) }
 {
     sshpacket::parser_law();
     sshpacket::stream_law();

@@ -1,6 +1,6 @@
 //! Phase auth at a client: the attempts of its plan and what the server answers (RFC 4252).
 
-ghost use Rattle.std.specs.Prelude.{◌≡◌, ◌≢◌, [], true, false, Bool, IfOk, OnOk, if◌then◌else◌, map};
+ghost use Rattle.std.specs.Prelude.{◌≡◌, [], true, false, Bool, IfOk, OnOk, if◌then◌else◌, map};
 ghost use Rattle.sshneg.specs.ChoiceReadings.{is_in};
 ghost use Rattle.sshpacket.specs.KeysData.{KeysData};
 ghost use Rattle.sshcore.specs.declared.end.Fault.TheVariants as fault;
@@ -10,7 +10,7 @@ ghost use Rattle.sshcore.specs.Authenticating.{confirmed_attempt, failed_attempt
 ghost use Rattle.sshcore.specs.Brings.{Gives, IsOngoing, received_one};
 ghost use Rattle.sshcore.specs.EndpointConfig.{config_data};
 ghost use Rattle.sshcore.specs.ConfigView.{attempt_data, credential_data};
-ghost use Rattle.sshcore.specs.EndData.{Failed, Open, end_data, fails};
+ghost use Rattle.sshcore.specs.EndData.{Failed, Open, by_input, end_data, fails};
 ghost use Rattle.sshcore.specs.StateData.{state_data};
 ghost use Rattle.sshcore.specs.Plan.{confirmed, next_after, next_listed, proving_name};
 
@@ -37,7 +37,7 @@ impl State<'_> {
             → Gives (S.meaning suite.now) (config_data config.now).seed strict next (state_data self.old) (state_data self.new) sent.old.items sent.new.items
             (attempt_reply (S.meaning suite.now) (state_data self.old).known.session (state_data self.old).known.left)) }
         ensures stays { OnOk result (state_data self.new ≡ record (state_data self.old) { end = (state_data self.new).end; sending = (state_data self.new).sending }) }
-        ensures kept { OnOk result (end_data self.new.end ≢ Failed fault.Memory) }
+        ensures kept { OnOk result (by_input (end_data self.new.end) ≡ true) }
     {
         match self.left.first() {
             None => self.fail(config, suite, Fault::NoMoreMethods, sent),
@@ -72,7 +72,7 @@ impl State<'_> {
           known = failed_attempt (state_data self.old).known methods.now;
           sending = (state_data self.new).sending;
         }) }
-        ensures kept { OnOk result (end_data self.new.end ≢ Failed fault.Memory) }
+        ensures kept { OnOk result (by_input (end_data self.new.end) ≡ true) }
     {
         self.left = next_attempts(self.left, methods);
         self.confirmed = false;
@@ -99,7 +99,7 @@ impl State<'_> {
           known = confirmed_attempt (state_data self.old).known;
           sending = (state_data self.new).sending;
         }) }
-        ensures kept { OnOk result (end_data self.new.end ≢ Failed fault.Memory) }
+        ensures kept { OnOk result (by_input (end_data self.new.end) ≡ true) }
     {
         if !self.is_about(suite, algorithm, key)? {
             let unexpected = Fault::Unexpected(SSH_MSG_USERAUTH_PK_OK);
@@ -142,7 +142,7 @@ impl State<'_> {
             (success_reply (state_data self.old).known)) }
         ensures stays { OnOk result (IsOngoing (state_data self.new).end
             → state_data self.new ≡ record (state_data self.old) { end = (state_data self.new).end; known = received_one (state_data self.old).known }) }
-        ensures kept { OnOk result (end_data self.new.end ≢ Failed fault.Memory) }
+        ensures kept { OnOk result (by_input (end_data self.new.end) ≡ true) }
     {
         match self.left.first() {
             None => {

@@ -9,6 +9,7 @@ ghost use Rattle.sshmsg.specs.MessageData as content;
 ghost use Rattle.sshmsg.specs.View.{kexinit_data};
 ghost use Rattle.sshmsg.specs.Written.{written_message};
 ghost use Rattle.sshcore.specs.EndpointConfig.{config_data, role_of};
+ghost use Rattle.sshcore.specs.MadeWith.{draws_in};
 ghost use Rattle.sshcore.specs.declared.draws.Draws.{Draws};
 ghost use Rattle.sshcore.specs.ConfigParts.{ClientData, ServerData};
 ghost use Rattle.sshcore.specs.ConfigRules.{IsAttempt};
@@ -49,6 +50,7 @@ impl<'a> Config<'a> {
     /// What both roles have, besides draws.
     pub(crate) fn side(&self) -> &'a SideParts
         ensures strict { result.now.strict ≡ (config_data self.now).strict }
+        ensures ignored_limit { result.now.ignored_limit ≡ (config_data self.now).ignored_limit }
         // The methods are some names, and they are those of the KEXINIT, whose marker is no method.
         ensures methods { map string_bytes result.now.kex_algorithms.items ≡ methods (config_data self.now).offer.kex_algorithms }
         ensures some { 0 < length result.now.kex_algorithms.items }
@@ -73,6 +75,7 @@ impl<'a> Config<'a> {
 
     /// What this connection has drawn, of a config that is put aside.
     pub(crate) fn into_draws(self) -> Draws
+        ensures draws { result ≡ draws_in self.entry }
         ensures client { (client : ClientData) (draws : Draws) → config_data self.entry ≡ config_of_client (redrawn_client draws client) → result ≡ draws }
         ensures server { (server : ServerData) (draws : Draws) → config_data self.entry ≡ config_of_server (redrawn_server draws server) → result ≡ draws }
     {
@@ -213,6 +216,17 @@ impl<'a> Config<'a> {
         match self {
             Config::Client(..) => &[],
             Config::Server(server, _) => &server.parts().required,
+        }
+    }
+
+    /// The algorithms of users' keys that a server tells to a client that asks; a client tells none.
+    pub(crate) fn signature_algorithms(&self) -> &'a [String]
+        ensures names { map string_bytes result.now ≡ (config_data self.now).signature_algorithms }
+        ensures short { length (names_body (config_data self.now).signature_algorithms) ≤ LIST_LIMIT }
+    {
+        match self {
+            Config::Client(..) => &[],
+            Config::Server(server, _) => &server.parts().signature_algorithms,
         }
     }
 

@@ -27,6 +27,7 @@ pub(crate) fn server_lists_are_short(parts: &ServerParts) -> bool
         && is_short_list(&parts.services)
         && is_short_list(&parts.methods)
         && is_short_list(&parts.required)
+        && is_short_list(&parts.signature_algorithms)
 }
 
 /// Whether the text of each of a side's lists is short enough, where it is known of the host key

@@ -64,6 +64,7 @@ fn server_lists_are_names(parts: &ServerParts) -> bool
         && are_names(&parts.services)
         && are_names(&parts.methods)
         && are_names(&parts.required)
+        && are_names(&parts.signature_algorithms)
 }
 
 /// Whether each entry of a side's lists is a name, where it is known of the host key algorithms.

@@ -31,6 +31,11 @@ pub const PLAN_LIMIT: usize = 64;
 /// The most tries that a server grants (profile; RFC 4252 section 4 recommends 20).
 pub const TRIES_LIMIT: u32 = 20;
 
+/// How many bytes more than its payload a packet that says nothing counts (profile), as many as a packet
+/// has beside its payload at most (RFC 4253 section 6): 4 of its length, 1 of the padding's, 255 of
+/// padding, and a tag of 16.
+pub const IGNORED_OVERHEAD: u32 = 276;
+
 /// How a client proves who its user is.
 #[derive(Drop)]
 pub enum Credential {
@@ -125,6 +130,11 @@ pub struct SideParts {
     pub exchange_random: Vec<u8>,
     /// The secret of which the suite makes padding: 32 random bytes, for one connection.
     pub padding_seed: Vec<u8>,
+    /// How many bytes of packets that say nothing are taken after NEWKEYS: what goes beyond ends the
+    /// session as F17. IGNORE, DEBUG, UNIMPLEMENTED and EXT_INFO say nothing, and numbers without a
+    /// meaning. Each counts its payload and [`IGNORED_OVERHEAD`] bytes more, so that the limit bounds
+    /// the bytes on the wire where a packet's tag has at most 16 bytes. `None`: there is no limit.
+    pub ignored_limit: Option<u32>,
 }
 
 /// What a client's config is made of.
@@ -156,6 +166,10 @@ pub struct ServerParts {
     /// twice; there may be none (RFC 4252 section 5.1). They have to succeed in an unbroken run of requests
     /// for one user and one service (profile).
     pub required: Vec<String>,
+    /// The algorithms of users' keys that are told to a client that asks for extensions, in the first packet after
+    /// NEWKEYS (RFC 8308 sections 2.4 and 3.1); where there are none, as where the client doesn't ask, nothing is told.
+    /// They refuse no request. Their text, as that of each list, has at most 1000 bytes.
+    pub signature_algorithms: Vec<String>,
     /// The number of the request at which a failure ends the session, 1 to 20.
     pub tries: u32,
     /// The text of the BANNER that follows the accepted service (RFC 4252 section 5.4), at most 8192

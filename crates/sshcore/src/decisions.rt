@@ -6,22 +6,22 @@ ghost use Rattle.sshcore.specs.EndpointPartsView.{proof_data};
 
 use crate::notice::Notice;
 
-/// What a request proves of its user (RFC 4252), or the key that a query asks about.
+/// What a request claims of its user (RFC 4252), or the key that a query asks about.
 ///
 /// It has no `Debug`: passwords are never printed.
 #[derive(Clone, Copy)]
 pub enum Proof<'a> {
     /// Nothing: the method `none` (RFC 4252 section 5.2).
     None,
-    /// That the user's side knows a password, any bytes (RFC 4252 section 8).
+    /// A password that the user's side knows, any bytes (RFC 4252 section 8).
     Password(&'a [u8]),
-    /// A key (RFC 4252 section 7). Of a request that is signed: the user's side has its private key, and
-    /// the signature was verified. Of a query: whether this key would do is asked, nothing was signed, and
-    /// a yes accepts nobody.
+    /// A key (RFC 4252 section 7), of a signed request or of a query. Whether the user's side has its private key
+    /// isn't known: no signature was looked at. A yes says that this key is accepted for this user, and
+    /// by itself authenticates nobody: a signed request is successful if its signature is then verified, and a query never.
     Key {
-        /// The name of the key's algorithm, as the request has it. An endpoint compares it with nothing. That
-        /// it fits the names inside the key and the signature is for the suite's `verify` to see; of a query,
-        /// of which nothing is verified, nobody has seen it. So decide by the whole blob.
+        /// The name of the key's algorithm, as the request has it, with which the suite signs. An endpoint compares
+        /// it with no other: that it fits the names inside the key and the signature is for the suite's `verify` to
+        /// see, after the decision. So decide by the whole blob.
         algorithm: &'a str,
         /// The public key, as the request has it.
         blob: &'a [u8],
@@ -42,8 +42,9 @@ pub trait Decisions {
     fn host_key(&self, algorithm: &str, blob: &[u8]) -> bool
         ensures { result ≡ (policy self.now).host_key algorithm.now blob.now };
 
-    /// Whether a request is successful by what it proves, of requests counted from 1 (RFC 4252 section 5); of a
-    /// query whether its key would do (section 7). A yes to a request accepts the user, unless methods
+    /// Whether what a request claims is accepted for this user, of requests counted from 1 (RFC 4252 section 5);
+    /// of a query whether its key would do (section 7). It is asked before a signature is verified, which is done
+    /// after a yes alone, once. A yes to a request accepts the user, unless its signature is wrong, or methods
     /// are required that aren't reached yet (section 5.1). It is asked of the method `none` too, whatever
     /// methods the server lists: say no to `Proof::None` where nobody is accepted without a proof.
     fn user(&self, request_number: u32, user: &str, service: &str, proof: &Proof<'_>) -> bool

@@ -5,6 +5,7 @@ ghost use Rattle.sshpacket.specs.KeysData.{KeysData};
 ghost use Rattle.sshcore.specs.Brings.{Gives};
 ghost use Rattle.sshcore.specs.EndpointConfig.{config_data};
 ghost use Rattle.sshcore.specs.EndData.{Disconnected, Open, description_sent, disconnects, end_data};
+ghost use Rattle.sshcore.specs.Shown.{ShowsTheSame};
 ghost use Rattle.sshcore.specs.StateData.{state_data};
 
 use crate::config::Config;
@@ -34,6 +35,7 @@ impl State<'_> {
             (disconnects reason description.now)) }
         ensures stays { OnOk result (state_data self.new ≡ record (state_data self.old) { end = Disconnected reason; sending = (state_data self.new).sending }) }
         ensures ends { OnOk result (end_data self.new.end ≡ Disconnected reason) }
+        ensures shows { OnOk result (ShowsTheSame self.old self.new) }
         ensures memory { OnErr result (out.new.items ≡ out.old.items) }
     {
         sshmsg::lengths_law();

@@ -45,6 +45,8 @@ pub enum Fault {
     Memory,
     /// F16: the input ended before.
     Cut,
+    /// F17: more came that says nothing than the config's `ignored_limit` takes.
+    TooMuchIgnored,
 }
 
 /// A failure as its code, with the number or the field that some have: it prints `F10`, `F7 20` or `F8 kex`, where the
@@ -100,6 +102,7 @@ fn code_of(fault: &Fault) -> &'static str
         Fault::NoMoreMethods => "F14",
         Fault::Memory => "F15",
         Fault::Cut => "F16",
+        Fault::TooMuchIgnored => "F17",
     }
 }
 

@@ -1,10 +1,10 @@
 //! One endpoint, fed with bytes.
 
-ghost use Rattle.std.specs.Prelude.{◌≡◌, ◌≢◌, None, Some, ◌<◌, ◌≤◌, ◌+◌, ◌*◌, ◌↔◌, ◌++◌, [], ℕ, IfOk, IfSome, IsTrue, List, Ok, OnErr, OnOk, is_some, length, take};
+ghost use Rattle.std.specs.Prelude.{◌≡◌, ◌≢◌, None, Some, ◌<◌, ◌≤◌, ◌+◌, ◌*◌, ◌↔◌, ◌++◌, [], ℕ, IfOk, IfSome, IsTrue, List, Ok, OnErr, OnOk, is_some, length, take, true, false};
 ghost use Rattle.sshneg.specs.declared.side.Side.TheVariants.{Client, Server};
 ghost use Rattle.sshpacket.specs.declared.limits.TheConstants.{PACKET_LIMIT};
 ghost use Rattle.sshcore.specs.declared.end.Fault.TheVariants as fault;
-ghost use Rattle.sshcore.specs.EndData.{AgreedData, Authenticated, Failed, Open, end_data};
+ghost use Rattle.sshcore.specs.EndData.{AgreedData, Authenticated, Failed, Open, by_input, end_data};
 ghost use Rattle.sshcore.specs.EndpointParts.{config_of_client, config_of_server};
 ghost use Rattle.sshcore.specs.Before.{strict_at};
 ghost use Rattle.sshcore.specs.Brings.{IsOngoing};
@@ -18,6 +18,7 @@ ghost use Rattle.sshcore.specs.NamesView.{names_of};
 ghost use Rattle.sshcore.specs.Phases.{past_kexinit, phase_at};
 ghost use Rattle.sshcore.specs.Redrawn.{redrawn_client, redrawn_server};
 ghost use Rattle.sshcore.specs.Sessions.{IsSession};
+ghost use Rattle.sshcore.specs.Shown.{ShowsTheSame};
 ghost use Rattle.sshcore.specs.EndpointData.{endpoint_setup};
 
 use crate::chosen_names::ChosenNames;
@@ -193,6 +194,8 @@ impl<'a, S: Suite, D: Decisions> Endpoint<'a, S, D> {
         ensures memory { OnErr result ((endpoint_end self.new ≡ Failed fault.Memory) × Breaks S.meaning D.policy self.old self.new piece.now out.old.items out.new.items) }
         // Running out of memory is answered, and never found later.
         ensures kept { OnOk result (endpoint_end self.new ≡ Failed fault.Memory → endpoint_end self.old ≡ Failed fault.Memory) }
+        // And no other end comes of it than those of what is received: its owner alone cuts it off or disconnects it.
+        ensures owned { OnOk result (by_input (endpoint_end self.new) ≡ false → endpoint_end self.old ≡ endpoint_end self.new) }
         ensures ended { endpoint_end self.old ≢ Open → (result ≡ Ok 0) × (self.new ≡ self.old) × (out.new ≡ out.old) }
     {
         let mut used = 0;
@@ -210,7 +213,7 @@ impl<'a, S: Suite, D: Decisions> Endpoint<'a, S, D> {
         ensures used { IfOk result (λ used. used ≤ length piece.now) }
         ensures turns { IfOk result (λ used. turns_of self.new < turns_of self.old + 3 * used) }
         ensures memory { OnErr result ((endpoint_end self.new ≡ Failed fault.Memory) × Breaks S.meaning D.policy self.old self.new piece.now out.old.items out.new.items) }
-        ensures kept { OnOk result (endpoint_end self.new ≢ Failed fault.Memory) }
+        ensures kept { OnOk result (by_input (endpoint_end self.new) ≡ true) }
     {
         let received = receive(
             &mut self.input,
@@ -233,6 +236,8 @@ impl<'a, S: Suite, D: Decisions> Endpoint<'a, S, D> {
     /// The input has ended: an open endpoint fails as `Cut`, another doesn't change. Takes no memory.
     pub fn end_of_input(&mut self)
         ensures cuts { endpoint_end self.old ≡ Open → Cuts S.meaning D.policy self.old self.new }
+        // What `phase`, `is_strict` and `algorithms` tell is as it was.
+        ensures shows { ShowsTheSame self.old.state self.new.state }
         ensures ended { endpoint_end self.old ≢ Open → self.new ≡ self.old }
     {
         if self.is_open() {
@@ -256,6 +261,8 @@ impl<'a, S: Suite, D: Decisions> Endpoint<'a, S, D> {
         out: &mut Vec<u8>,
     ) -> Result<(), Memory>
         ensures leaves { endpoint_end self.old ≡ Open → OnOk result (Leaves S.meaning D.policy self.old self.new reason description.now out.old.items out.new.items) }
+        // What `phase`, `is_strict` and `algorithms` tell is as it was.
+        ensures shows { OnOk result (ShowsTheSame self.old.state self.new.state) }
         ensures memory { OnErr result ((endpoint_end self.new ≡ Failed fault.Memory) × (out.new.items ≡ out.old.items) × Breaks S.meaning D.policy self.old self.new [] out.old.items out.new.items) }
         ensures ended { endpoint_end self.old ≢ Open → (result ≡ Ok tt) × (self.new ≡ self.old) × (out.new ≡ out.old) }
     {
@@ -393,7 +400,7 @@ fn receive<S: Suite, D: Decisions>(
     ensures used { IfOk result (λ used. used ≤ length piece.now) }
     ensures turns { IfOk result (λ used. turns_left (end_data state.new.end) input.new < turns_left (end_data state.old.end) input.old + 3 * used) }
     ensures reads { OnOk result (IsOngoing (end_data state.new.end) → CanRead (S.meaning suite.now) input.new) }
-    ensures kept { OnOk result (end_data state.new.end ≢ Failed fault.Memory) }
+    ensures kept { OnOk result (by_input (end_data state.new.end) ≡ true) }
     ensures memory { OnErr result (out.new.items ≡ out.old.items) }
 {
     let mut sent = Vec::new(state.alloc);

@@ -1,22 +1,24 @@
 //! Phase exchange: the peer's share (RFC 4253 section 8, RFC 5656 section 4).
 
-ghost use Rattle.std.specs.Prelude.{◌≡◌, ◌≢◌, ◌≤◌, ◌<◌, IfOk, List, Ok, OnOk, Some, is_some, length, option_map, true, ℕ};
+ghost use Rattle.std.specs.Prelude.{◌≡◌, ◌≤◌, ◌<◌, IfOk, List, Ok, OnOk, Some, is_some, length, option_map, true, ℕ, Bool};
 ghost use Rattle.sshpacket.specs.declared.limits.TheConstants.{DIGEST_LIMIT, PACKET_LIMIT, SHARE_LIMIT};
+ghost use Rattle.sshpacket.specs.KeysData.{KeysData};
 ghost use Rattle.sshpacket.specs.Suite.{FitsShare, ResponseData, response_data};
 ghost use Rattle.sshneg.specs.declared.side.Side.TheVariants.{Server};
 ghost use Rattle.sshcore.specs.declared.end.Fault.TheVariants as fault;
 ghost use Rattle.sshcore.specs.declared.table.Phase.TheVariants as phase;
+ghost use Rattle.sshcore.specs.Brings.{Gives};
 ghost use Rattle.sshcore.specs.EndpointConfig.{config_data, role_of};
-ghost use Rattle.sshcore.specs.EndData.{Failed, Open, end_data};
+ghost use Rattle.sshcore.specs.EndData.{Failed, Open, by_input, end_data, goes};
 ghost use Rattle.sshcore.specs.Exchange.{share_read};
 ghost use Rattle.sshcore.specs.Exchanged.{AnswersInit, HasForm, IsSigned, ReceivesExchange};
 ghost use Rattle.sshcore.specs.StateData.{state_data, with_exchange};
 ghost use Rattle.sshcore.specs.History.{FitsPacket};
-ghost use Rattle.sshcore.specs.Work.{init_reply};
+ghost use Rattle.sshcore.specs.Work.{init_reply, told_by};
 
 use crate::config::Config;
 use crate::end::Fault;
-use crate::payloads::reply_payload;
+use crate::payloads::{extensions_payload, reply_payload};
 use crate::state::State;
 use crate::table::Phase;
 use sshneg::Exchange;
@@ -74,7 +76,7 @@ impl State<'_> {
         ensures receives { OnOk result ((message : MessageData) → share_read (Ok message) ≡ share.now → HasForm (S.meaning suite.now) (state_data self.old)
             → ReceivesExchange (S.meaning suite.now) Server (config_data config.now) (state_data self.old) (state_data self.new) sent.old.items sent.new.items message
             (init_reply (S.meaning suite.now) Server (config_data config.now) (state_data self.old).known message)) }
-        ensures kept { OnOk result (end_data self.new.end ≢ Failed fault.Memory) }
+        ensures kept { OnOk result (by_input (end_data self.new.end) ≡ true) }
     {
         match self.respond(config, suite, share)? {
             None => self.fail(config, suite, Fault::Exchange, sent),
@@ -137,7 +139,7 @@ impl State<'_> {
         })
     }
 
-    /// Sends the answer and NEWKEYS, and stands after the exchange.
+    /// Sends the answer, NEWKEYS and what a client that asks is told, and stands after the exchange.
     fn answer_init<S: Suite>(
         &mut self,
         config: &Config<'_>,
@@ -146,6 +148,7 @@ impl State<'_> {
         signed: Signed,
         sent: &mut Vec<u8>,
     ) -> Result<(), Memory>
+        requires open { end_data self.old.end ≡ Open }
         requires at { self.old.phase ≡ phase.Exchange }
         requires reply { FitsPacket signed.reply.items }
         requires hash { length signed.hash.items ≤ DIGEST_LIMIT }
@@ -155,7 +158,30 @@ impl State<'_> {
         let keys = self.both_keys(config, suite, shared, &signed.hash)?;
         self.send(config, suite, &signed.reply, sent)?;
         self.send_new_keys(config, suite, keys.outgoing, sent)?;
+        self.send_extensions(config, suite, sent)?;
         self.stand_after_exchange(config, signed.hash, signed.host_key, keys.incoming)
+    }
+
+    /// Tells a client that asks the algorithms of users' keys, if the server has a list of them (RFC 8308 sections
+    /// 2.4 and 3.1).
+    fn send_extensions<S: Suite>(
+        &mut self,
+        config: &Config<'_>,
+        suite: &S,
+        sent: &mut Vec<u8>,
+    ) -> Result<(), Memory>
+        requires open { end_data self.old.end ≡ Open }
+        ensures gives { OnOk result ((strict : Bool) (next : KeysData)
+            → Gives (S.meaning suite.now) (config_data config.now).seed strict next (state_data self.old) (state_data self.new) sent.old.items sent.new.items
+            (goes (told_by (config_data config.now) (state_data self.old).known))) }
+        ensures stays { OnOk result (state_data self.new ≡ record (state_data self.old) { sending = (state_data self.new).sending }) }
+    {
+        let names = config.signature_algorithms();
+        if names.is_empty() || !self.asks {
+            return Ok(());
+        }
+        let payload = extensions_payload(self.alloc, names)?;
+        self.send(config, suite, &payload, sent)
     }
 
     /// Goes on to phase newkeys, with the session identifier, the server's public host key and the keys of

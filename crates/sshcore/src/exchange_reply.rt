@@ -1,13 +1,13 @@
 //! The server's answer of an exchange at a client (RFC 4253 section 8).
 
-ghost use Rattle.std.specs.Prelude.{◌≡◌, ◌≢◌, ◌≤◌, ◌<◌, IfOk, Ok, OnOk, Some, is_some, length, true};
+ghost use Rattle.std.specs.Prelude.{◌≡◌, ◌≤◌, ◌<◌, IfOk, Ok, OnOk, Some, is_some, length, true};
 ghost use Rattle.sshpacket.specs.declared.limits.TheConstants.{DIGEST_LIMIT, PACKET_LIMIT, SHARE_LIMIT};
 ghost use Rattle.sshneg.specs.declared.side.Side.TheVariants.{Client};
 ghost use Rattle.sshneg.specs.ExchangeEnd.{exchange_hash};
 ghost use Rattle.sshcore.specs.declared.end.Fault.TheVariants as fault;
 ghost use Rattle.sshcore.specs.declared.table.Phase.TheVariants as phase;
 ghost use Rattle.sshcore.specs.EndpointConfig.{config_data, role_of};
-ghost use Rattle.sshcore.specs.EndData.{Failed, Open, end_data};
+ghost use Rattle.sshcore.specs.EndData.{Failed, Open, by_input, end_data};
 ghost use Rattle.sshcore.specs.Exchange.{host_key_read, share_read};
 ghost use Rattle.sshcore.specs.Exchanged.{AcceptsReply, HasForm, JudgesReply, ReceivesExchange, client_shares, exchanged};
 ghost use Rattle.sshcore.specs.StateData.{state_data};
@@ -48,7 +48,7 @@ impl State<'_> {
         ensures receives { OnOk result ((message : MessageData) → share_read (Ok message) ≡ reply.now.share.now → host_key_read (Ok message) ≡ reply.now.host_key.now → HasForm (S.meaning suite.now) (state_data self.old)
             → ReceivesExchange (S.meaning suite.now) Client (config_data config.now) (state_data self.old) (state_data self.new) sent.old.items sent.new.items message
             (reply_reply (setup_with (S.meaning suite.now) (D.policy decisions.now) Client (config_data config.now)) (state_data self.old).known message reply.now.signature.now)) }
-        ensures kept { OnOk result (end_data self.new.end ≢ Failed fault.Memory) }
+        ensures kept { OnOk result (by_input (end_data self.new.end) ≡ true) }
     {
         let algorithms = self.algorithms.as_ref().unwrap();
         if !decisions.host_key(algorithms.host_key(), reply.host_key) {
@@ -79,7 +79,7 @@ impl State<'_> {
         ensures judges { OnOk result (JudgesReply (S.meaning suite.now) (role_of config.now) (config_data config.now) (state_data self.old) (state_data self.new)
             (client_shares (S.meaning suite.now) (config_data config.now) (state_data self.old).known reply.now.host_key.now reply.now.share.now shared.now)
             reply.now.signature.now sent.old.items sent.new.items) }
-        ensures kept { OnOk result (end_data self.new.end ≢ Failed fault.Memory) }
+        ensures kept { OnOk result (by_input (end_data self.new.end) ≡ true) }
     {
         let hash = self.reply_hash(config, suite, reply, shared)?;
         let algorithms = self.algorithms.as_ref().unwrap();

@@ -1,8 +1,9 @@
 //! What an endpoint sends where it fails, and to a message that it does not know (RFC 4253 section 11).
 
-ghost use Rattle.std.specs.Prelude.{◌≡◌, ◌<◌, ◌∷◌, [], Bool, IfOk, None, OnOk, Some, false};
+ghost use Rattle.std.specs.Prelude.{◌≡◌, ◌<◌, ◌≤◌, ◌∷◌, [], Bool, IfOk, None, OnOk, Some, false, length};
 ghost use Rattle.sshmsg.specs.MessageData as content;
 ghost use Rattle.sshmsg.specs.Written.{written_message};
+ghost use Rattle.sshpacket.specs.declared.limits.TheConstants.{PACKET_LIMIT};
 ghost use Rattle.sshpacket.specs.KeysData.{KeysData};
 ghost use Rattle.sshcore.specs.Made.{IsMade};
 ghost use Rattle.sshcore.specs.EndData.{Open, end_data, reason_of};
@@ -22,7 +23,7 @@ use std::alloc::Global;
 
 impl<'a> State<'a> {
     ghost use Rattle.sshcore.specs.declared.end.Fault.TheVariants as fault;
-    ghost use Rattle.sshcore.specs.Brings.{Gives, received_one};
+    ghost use Rattle.sshcore.specs.Brings.{Gives, received_counted};
     ghost use Rattle.sshcore.specs.EndpointConfig.{config_data};
     ghost use Rattle.sshcore.specs.EndData.{Failed, disconnect, fails, goes};
     ghost use Rattle.sshcore.specs.StateData.{state_data};
@@ -67,22 +68,25 @@ impl<'a> State<'a> {
         }
     }
 
-    /// Tells the peer that a packet with this number wasn't understood (RFC 4253 section 11.4).
+    /// Tells the peer that a packet with this number wasn't understood (RFC 4253 section 11.4). Its payload
+    /// counts, if it says nothing.
     pub(crate) fn tell_unknown<S: Suite>(
         &mut self,
         config: &Config<'_>,
         suite: &S,
+        payload: &[u8],
         packet: u32,
         sent: &mut Vec<u8>,
     ) -> Result<(), Memory>
-        requires { end_data self.old.end ≡ Open }
+        requires open { end_data self.old.end ≡ Open }
+        requires short { length payload.now ≤ PACKET_LIMIT }
         ensures gives { OnOk result ((strict : Bool) (next : KeysData)
             → Gives (S.meaning suite.now) (config_data config.now).seed strict next (state_data self.old) (state_data self.new) sent.old.items sent.new.items
             (goes (written_message (content.Unimplemented packet) ∷ []))) }
-        ensures stays { OnOk result (state_data self.new ≡ record (state_data self.old) { known = received_one (state_data self.old).known; sending = (state_data self.new).sending }) }
+        ensures stays { OnOk result (state_data self.new ≡ record (state_data self.old) { known = received_counted (state_data self.old).known payload.now; sending = (state_data self.new).sending }) }
     {
         sshmsg::lengths_law();
-        self.first = false;
+        self.count(payload);
         let unknown = Message::Unimplemented {
             sequence_number: packet,
         };
@@ -116,6 +120,7 @@ fn reason_of(fault: Fault) -> Option<u32>
         Fault::Malformed(_) | Fault::Unexpected(_) | Fault::Strict(_) => {
             Some(SSH_DISCONNECT_PROTOCOL_ERROR)
         }
+        Fault::TooMuchIgnored => Some(SSH_DISCONNECT_PROTOCOL_ERROR),
         Fault::Mac => Some(SSH_DISCONNECT_MAC_ERROR),
         Fault::NoCommon(_) | Fault::Exchange | Fault::Signature => {
             Some(SSH_DISCONNECT_KEY_EXCHANGE_FAILED)

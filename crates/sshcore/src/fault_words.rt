@@ -9,7 +9,7 @@ use std::error::Error;
 use std::fmt;
 
 impl Fault {
-    /// The failure's code, `F1` to `F16`, without the number or the field that some have. Takes no memory.
+    /// The failure's code, `F1` to `F17`, without the number or the field that some have. Takes no memory.
     pub fn code(&self) -> &'static str
         ensures { result.now ≡ fault_code self.now }
     {
@@ -30,6 +30,7 @@ impl Fault {
             Fault::NoMoreMethods => "F14",
             Fault::Memory => "F15",
             Fault::Cut => "F16",
+            Fault::TooMuchIgnored => "F17",
         }
     }
 
@@ -52,6 +53,7 @@ impl Fault {
             Fault::NoMoreMethods => "no attempt is left",
             Fault::Memory => "memory is wanting",
             Fault::Cut => "the input ended before",
+            Fault::TooMuchIgnored => "more came that says nothing than is taken",
         }
     }
 }

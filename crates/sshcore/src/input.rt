@@ -1,6 +1,6 @@
 //! What an endpoint reads its bytes with.
 
-ghost use Rattle.std.specs.Prelude.{◌≡◌, ◌≢◌, ◌+◌, ◌*◌, ◌<◌, ◌≤◌, ℕ, Bool, IfOk, List, None, OnOk, length, take};
+ghost use Rattle.std.specs.Prelude.{◌≡◌, ◌≢◌, ◌+◌, ◌*◌, ◌<◌, ◌≤◌, ℕ, Bool, IfOk, List, None, OnOk, length, take, true};
 ghost use Rattle.sshwire.specs.Feeding.{StandsOpen};
 ghost use Rattle.sshwire.specs.LineReaderData.{Finished, LineReaderData};
 ghost use Rattle.sshwire.specs.declared.fault.WireFault.TheVariants as wire;
@@ -14,7 +14,7 @@ ghost use Rattle.sshcore.specs.declared.end.Fault.TheVariants as failed;
 ghost use Rattle.sshcore.specs.declared.input.Input.TheVariants as input;
 ghost use Rattle.sshcore.specs.Brings.{Gives, IsOngoing};
 ghost use Rattle.sshcore.specs.EndpointConfig.{config_data, setup_of};
-ghost use Rattle.sshcore.specs.EndData.{Failed, Open, end_data, fails};
+ghost use Rattle.sshcore.specs.EndData.{Failed, Open, by_input, end_data, fails};
 ghost use Rattle.sshcore.specs.Inputs.{Begins, CanRead, Steps, held_by, turns_left};
 ghost use Rattle.sshcore.specs.ReceivesLines.{EndsBy, MayReadOn, ReceivesLines, used_by};
 ghost use Rattle.sshcore.specs.Replies.{fault_of};
@@ -93,7 +93,7 @@ impl Input {
         ensures used { IfOk result (λ used. used ≤ length piece.now) }
         ensures turns { IfOk result (λ used. turns_left (end_data state.new.end) self.new < turns_left (end_data state.old.end) self.old + 3 * used) }
         ensures reads { OnOk result (IsOngoing (end_data state.new.end) → CanRead (S.meaning suite.now) self.new) }
-        ensures kept { OnOk result (end_data state.new.end ≢ Failed failed.Memory) }
+        ensures kept { OnOk result (by_input (end_data state.new.end) ≡ true) }
     {
         sshpacket::parser_law();
         sshpacket::stream_law();
@@ -209,7 +209,7 @@ fn receive_packets<S: Suite, D: Decisions>(
         (input.Packets reader.old) (state_data state.old) (input.Packets reader.new) (state_data state.new) (take used piece.now) sent.old.items sent.new.items) }
     ensures used { IfOk result (λ used. (0 < used) × (used ≤ length piece.now)) }
     ensures reads { OnOk result (IsOngoing (end_data state.new.end) → ReaderWaits (S.meaning suite.now) reader.new) }
-    ensures kept { OnOk result (end_data state.new.end ≢ Failed failed.Memory) }
+    ensures kept { OnOk result (by_input (end_data state.new.end) ≡ true) }
 {
     sshpacket::parser_law();
     sshpacket::stream_law();

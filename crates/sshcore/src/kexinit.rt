@@ -1,22 +1,22 @@
 //! Phase kexinit: the peer's KEXINIT (RFC 4253 section 7.1).
 
-ghost use Rattle.std.specs.Prelude.{◌≡◌, ◌≢◌, ◌≤◌, ◌++◌, ◌∷◌, ◌&&◌, [], Bool, IfOk, None, OnOk, Some, false, length, not};
+ghost use Rattle.std.specs.Prelude.{◌≡◌, ◌≤◌, ◌++◌, ◌∷◌, ◌&&◌, [], Bool, IfOk, None, OnOk, Some, false, length, not, true};
 ghost use Rattle.sshmsg.specs.View.{kexinit_data};
 ghost use Rattle.sshpacket.specs.declared.limits.TheConstants.{PACKET_LIMIT};
 ghost use Rattle.sshpacket.specs.KeysData.{KeysData};
 ghost use Rattle.sshneg.specs.declared.side.Side.TheVariants.{Client, Server};
-ghost use Rattle.sshneg.specs.ExchangeEnd.{client_of, server_of};
+ghost use Rattle.sshneg.specs.ExchangeEnd.{client_of, offer_in, server_of};
 ghost use Rattle.sshcore.specs.declared.end.Fault.TheVariants as fault;
 ghost use Rattle.sshcore.specs.declared.table.Phase.TheVariants as phase;
 ghost use Rattle.sshcore.specs.Before.{strict_towards, wrong_guess};
 ghost use Rattle.sshcore.specs.Brings.{Gives, IsOngoing, StandsAt};
 ghost use Rattle.sshcore.specs.EndpointConfig.{config_data, role_of};
-ghost use Rattle.sshcore.specs.EndData.{Failed, Open, end_data, goes};
+ghost use Rattle.sshcore.specs.EndData.{Failed, Open, by_input, end_data, goes};
 ghost use Rattle.sshcore.specs.Exchange.{choice_with};
 ghost use Rattle.sshcore.specs.StateData.{state_data};
 ghost use Rattle.sshcore.specs.Negotiated.{IsNegotiated, sends_init};
 ghost use Rattle.sshcore.specs.Standing.{after_offer};
-ghost use Rattle.sshcore.specs.Work.{kexinit_reply, opening};
+ghost use Rattle.sshcore.specs.Work.{asks_by, asks_for_extensions, kexinit_reply, opening};
 
 use crate::algorithms::Algorithms;
 use crate::config::Config;
@@ -52,6 +52,7 @@ impl State<'_> {
     ) -> Result<(), Memory>
         requires open { end_data self.old.end ≡ Open }
         requires short { length payload.now ≤ PACKET_LIMIT }
+        requires read { offer_in payload.now ≡ Some (kexinit_data peer.now) }
         ensures gives { OnOk result ((strict : Bool) (next : KeysData)
             → Gives (S.meaning suite.now) (config_data config.now).seed strict next (state_data self.old) (state_data self.new) sent.old.items sent.new.items
             (kexinit_reply (S.meaning suite.now) (role_of config.now) (config_data config.now) (state_data self.old).known (kexinit_data peer.now))) }
@@ -61,7 +62,7 @@ impl State<'_> {
         ensures moves { OnOk result (IsOngoing (state_data self.new).end
             → StandsAt (state_data self.new) phase.Exchange (wrong_guess (role_of config.now) (config_data config.now).offer (Some (kexinit_data peer.now)))
             (after_offer (S.meaning suite.now) (role_of config.now) (config_data config.now) (state_data self.old).known payload.now (kexinit_data peer.now))) }
-        ensures kept { OnOk result (end_data self.new.end ≢ Failed fault.Memory) }
+        ensures kept { OnOk result (by_input (end_data self.new.end) ≡ true) }
     {
         let strict = is_strict(config, peer);
         if strict && !self.first {
@@ -72,7 +73,8 @@ impl State<'_> {
             Ok(negotiated) => {
                 self.strict = strict;
                 self.guess = peer.first_kex_packet_follows && !negotiated.right;
-                self.open_exchange(config, suite, payload, negotiated, sent)
+                let asks = asks_for_extensions(peer);
+                self.open_exchange(config, suite, payload, asks, negotiated, sent)
             }
         }
     }
@@ -83,11 +85,13 @@ impl State<'_> {
         config: &Config<'_>,
         suite: &S,
         payload: &[u8],
+        asks: bool,
         negotiated: Negotiated,
         sent: &mut Vec<u8>,
     ) -> Result<(), Memory>
         requires open { end_data self.old.end ≡ Open }
         requires short { length payload.now ≤ PACKET_LIMIT }
+        requires asks { asks ≡ asks_for_extensions payload.now }
         ensures gives { OnOk result ((strict : Bool) (next : KeysData)
             → Gives (S.meaning suite.now) (config_data config.now).seed strict next (state_data self.old) (state_data self.new) sent.old.items sent.new.items
             (goes (sends_init (S.meaning suite.now) (role_of config.now) (config_data config.now) negotiated.right negotiated.algorithms.kex))) }
@@ -100,6 +104,7 @@ impl State<'_> {
         let kexinit = Vec::from_slice(self.alloc, payload)?;
         self.send_init(config, suite, &negotiated, sent)?;
         self.kexinit = kexinit;
+        self.asks = asks;
         self.shares = negotiated.shares;
         self.algorithms = Some(negotiated.algorithms);
         self.phase = Phase::Exchange;
@@ -135,6 +140,13 @@ fn is_strict(config: &Config<'_>, peer: &KexInit<'_>) -> bool
 {
     sshneg::markers_law();
     strict_of(config.side().strict, config.role(), peer)
+}
+
+/// Whether a client's KEXINIT asks for extensions (RFC 8308 section 2.1).
+fn asks_for_extensions(peer: &KexInit<'_>) -> bool
+    ensures { result ≡ asks_by (Some (kexinit_data peer.now)) }
+{
+    peer.kex_algorithms.contains("ext-info-c")
 }
 
 /// Whether a message of the exchange is sent at KEXINIT: a client sends its share, unless a right guess

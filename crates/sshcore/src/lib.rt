@@ -8,7 +8,6 @@
 
 mod agreement;
 mod algorithms;
-mod answering;
 mod asked;
 mod asking_answer;
 mod asking_end;
@@ -41,6 +40,7 @@ mod failing;
 mod fault_words;
 mod given;
 mod greeting;
+mod ignoring;
 mod input;
 mod kexinit;
 mod law;
@@ -49,6 +49,7 @@ mod limits_laws;
 mod link;
 mod link_fault;
 mod link_laws;
+mod made_with;
 mod newkeys;
 mod notice;
 mod packet;
@@ -60,11 +61,14 @@ mod question;
 mod reaching;
 mod request_answers;
 mod requests;
+mod seen;
 mod sending;
 mod server_config;
 mod service;
 mod session;
 mod state;
+mod suite_fault;
+mod suite_judge;
 mod table;
 mod waiting;
 mod working;
@@ -76,9 +80,9 @@ pub use client_config::ClientConfig;
 pub use config_fault::ConfigFault;
 pub use config_laws::{config_law, draws_law};
 pub use config_parts::{
-    Attempt, BANNER_LIMIT, ClientParts, Credential, HostKey, LIST_LIMIT, NOTICE_LIMIT,
-    NOTICE_LINE_LIMIT, PASSWORD_LIMIT, PLAN_LIMIT, PRIVATE_KEY_LIMIT, ServerParts, SideParts,
-    TRIES_LIMIT, USER_LIMIT,
+    Attempt, BANNER_LIMIT, ClientParts, Credential, HostKey, IGNORED_OVERHEAD, LIST_LIMIT,
+    NOTICE_LIMIT, NOTICE_LINE_LIMIT, PASSWORD_LIMIT, PLAN_LIMIT, PRIVATE_KEY_LIMIT, ServerParts,
+    SideParts, TRIES_LIMIT, USER_LIMIT,
 };
 pub use decisions::{Decisions, Proof};
 pub use disconnecting::DESCRIPTION_LIMIT;
@@ -99,4 +103,5 @@ pub use paused_endpoint::PausedEndpoint;
 pub use question::Question;
 pub use server_config::ServerConfig;
 pub use session::{Accepted, Direction, Session, UserKey};
+pub use suite_fault::{AlgorithmList, SuiteFault};
 pub use table::{Line, Phase};

@@ -1,7 +1,7 @@
 //! What the layers above may rest on: the limits of configs, of links and of an owner's DISCONNECT, by their digits.
 
 ghost use Rattle.std.specs.Prelude.{◌≡◌};
-ghost use Rattle.sshcore.specs.declared.config_parts.TheConstants.{BANNER_LIMIT, LIST_LIMIT, NOTICE_LIMIT, NOTICE_LINE_LIMIT, PASSWORD_LIMIT, PLAN_LIMIT, PRIVATE_KEY_LIMIT, TRIES_LIMIT, USER_LIMIT};
+ghost use Rattle.sshcore.specs.declared.config_parts.TheConstants.{BANNER_LIMIT, IGNORED_OVERHEAD, LIST_LIMIT, NOTICE_LIMIT, NOTICE_LINE_LIMIT, PASSWORD_LIMIT, PLAN_LIMIT, PRIVATE_KEY_LIMIT, TRIES_LIMIT, USER_LIMIT};
 ghost use Rattle.sshcore.specs.declared.disconnecting.TheConstants.{DESCRIPTION_LIMIT};
 ghost use Rattle.sshcore.specs.declared.link.TheConstants.{LINK_LIMIT};
 
@@ -20,4 +20,5 @@ pub fn limits_law()
     ensures tries { TRIES_LIMIT ≡ 20 }
     ensures link { LINK_LIMIT ≡ 2147483648 }
     ensures description { DESCRIPTION_LIMIT ≡ 1024 }
+    ensures ignored { IGNORED_OVERHEAD ≡ 276 }
 {}

@@ -9,10 +9,16 @@ use std::alloc::Global;
 /// The most packets that a link seals, and the most that it opens: 2^31 (profile).
 ///
 /// That is half of all sequence numbers: the other half is for the packets that went before with the same
-/// keys, while the user was authenticated. So no number comes again under one key, also where the first of a
-/// link isn't 0 and numbers begin anew after 2^32 - 1. New keys are asked for long before: by RFC 4253 section
-/// 9 after a gigabyte or an hour, by RFC 4344 section 3.1 after 2^31 packets. They aren't made here: end the
-/// connection then.
+/// keys, while the user was authenticated. So where those were at most 2^31 in a direction no number comes again
+/// under one key, also where the first of a link isn't 0 and numbers begin anew after 2^32 - 1.
+///
+/// Nothing counts the packets that went before: a peer may send IGNORE as long as it is let, and each message
+/// that isn't known is answered by an UNIMPLEMENTED. But a packet with a tag of 16 bytes has 28 bytes at the
+/// least, so 2^31 of them have 56 GiB. Who bounds the bytes or the time up to SUCCESS, as a server has to,
+/// bounds them.
+///
+/// New keys are asked for long before: by RFC 4253 section 9 after a gigabyte or an hour, by RFC 4344 section
+/// 3.1 after 2^31 packets. They aren't made here: end the connection then.
 pub const LINK_LIMIT: u32 = 0x8000_0000;
 
 /// Both directions of a session: it seals payloads for the peer, and opens what the peer sends.
@@ -39,7 +45,7 @@ pub struct Link {
 impl Link {
     ghost use Rattle.std.specs.Borrow.{sem};
     ghost use Rattle.std.specs.Io.BufRead.{Rests};
-    ghost use Rattle.std.specs.Prelude.{◌≡◌, ◌<◌, ◌≤◌, ◌^◌, ◌++◌, Err, IfErr, IfOk, IfSome, OnOk, if◌then◌else◌, is_ok, length};
+    ghost use Rattle.std.specs.Prelude.{◌≡◌, ◌<◌, ◌≤◌, ◌^◌, ◌++◌, Err, IfErr, IfOk, IfSome, None, OnOk, if◌then◌else◌, is_ok, length};
     ghost use Rattle.sshpacket.specs.declared.limits.TheConstants.{PACKET_LIMIT};
     ghost use Rattle.sshpacket.specs.PacketReaderData.{Uses, last_used, packet_reader_data};
     ghost use Rattle.sshpacket.specs.Suite.{SuiteData};
@@ -112,24 +118,30 @@ impl Link {
     /// how many bytes of the piece were used (the rest is the front of the next piece), or that more bytes are
     /// wanted.
     ///
-    /// `UsedUp` where `LINK_LIMIT` packets were opened, and then all is as before. `Packet` where what came is no
-    /// packet, `Memory` where an allocation failed: either is answered for good, and nothing is opened any more.
+    /// `Packet` where what came is no packet, `Memory` where an allocation failed: either is answered for good, and
+    /// nothing is opened any more. `UsedUp` where `LINK_LIMIT` packets were opened and none was refused. Where either
+    /// is answered again all is as before.
     #[tactic(auto, unfolding(crate::specs::Linked::outgoing_of, crate::specs::Linked::incoming_of))]
     pub fn next<S: Suite>(&mut self, suite: &S, piece: &[u8]) -> Result<PacketStep<'_>, LinkFault>
-        ensures used_up { LINK_LIMIT ≤ (incoming_of self.old).opened → result ≡ Err fault.UsedUp }
+        ensures used_up { LINK_LIMIT ≤ (incoming_of self.old).opened → (packet_reader_data (incoming_of self.old).reader).fault ≡ None → result ≡ Err fault.UsedUp }
         // Before that: a payload exactly where a packet of it stands at the front, a fault exactly where the
         // packet there is refused, unless memory runs out.
         ensures tells { (incoming_of self.old).opened < LINK_LIMIT → LinkWaits (S.meaning suite.now) (incoming_of self.old) → OpenAnswer (S.meaning suite.now) (incoming_of self.old) piece.now result }
         ensures only { (incoming_of self.old).opened < LINK_LIMIT → LinkWaits (S.meaning suite.now) (incoming_of self.old) → OnlyOpenAnswer (S.meaning suite.now) (incoming_of self.old) piece.now result }
-        ensures again { (incoming_of self.old).opened < LINK_LIMIT → IfSome (packet_reader_data (incoming_of self.old).reader).fault (λ f. result ≡ Err (fault_by f)) }
+        // What was refused is refused so for good, at the limit too.
+        ensures again { IfSome (packet_reader_data (incoming_of self.old).reader).fault (λ f. result ≡ Err (fault_by f)) }
         // In every state: a packet uses some bytes of the piece, and no more than it has.
         ensures uses { IfOk result (λ step. Uses (length piece.now) step) }
         // How the link is left: what it seals with stays as it is.
         ensures* after { sem 𝓛 (Rests the_row self.entry (λ new.
             (outgoing_of new ≡ outgoing_of self.old)
+            × IfSome (packet_reader_data (incoming_of self.old).reader).fault (λ f. incoming_of new ≡ incoming_of self.old)
             × (LINK_LIMIT ≤ (incoming_of self.old).opened → incoming_of new ≡ incoming_of self.old)
             × ((incoming_of self.old).opened < LINK_LIMIT → LinkWaits (S.meaning suite.now) (incoming_of self.old) → LinkLeaves (S.meaning suite.now) (incoming_of self.old) piece.now result (incoming_of new)))) }
     {
+        if let Some(fault) = self.reader.fault() {
+            return Err(told_fault(fault));
+        }
         let opened = self.opened();
         if opened >= LINK_LIMIT as u64 {
             return Err(LinkFault::UsedUp);

@@ -2,21 +2,24 @@
 
 ghost use Rattle.std.specs.Prelude.{◌≡◌};
 ghost use Rattle.sshcore.specs.declared.table.Phase.TheVariants as phase;
-ghost use Rattle.sshcore.specs.Brings.{received_one};
+ghost use Rattle.sshcore.specs.Brings.{received_newkeys};
+ghost use Rattle.sshcore.specs.EndpointConfig.{config_data};
 ghost use Rattle.sshcore.specs.StateData.{keys_due, keys_left, state_data};
 
+use crate::config::Config;
 use crate::state::State;
 use crate::table::Phase;
 use sshpacket::Keys;
 
 impl State<'_> {
-    /// Is told that the peer goes over to the new keys.
-    pub(crate) fn receive_new_keys(&mut self)
+    /// Is told that the peer goes over to the new keys. From here on what says nothing counts.
+    pub(crate) fn receive_new_keys(&mut self, config: &Config<'_>)
         requires { self.old.phase ≡ phase.NewKeys }
-        ensures { state_data self.new ≡ record (state_data self.old) { phase = phase.Service; known = received_one (state_data self.old).known } }
+        ensures { state_data self.new ≡ record (state_data self.old) { phase = phase.Service; known = received_newkeys (config_data config.now) (state_data self.old).known } }
     {
         self.phase = Phase::Service;
         self.first = false;
+        self.allowance = config.side().ignored_limit;
     }
 
     /// The keys of what is received from here on, right after NEWKEYS.

@@ -1,6 +1,6 @@
 //! What becomes of a packet, by the phase table.
 
-ghost use Rattle.std.specs.Prelude.{◌≡◌, ◌≢◌, ◌≤◌, OnOk, false, length};
+ghost use Rattle.std.specs.Prelude.{◌≡◌, ◌≤◌, OnOk, false, length, true};
 ghost use Rattle.sshmsg.specs.Messages.{message_in};
 ghost use Rattle.sshmsg.specs.Numbers.{kind};
 ghost use Rattle.sshpacket.specs.declared.limits.TheConstants.{PACKET_LIMIT};
@@ -8,7 +8,7 @@ ghost use Rattle.sshcore.specs.declared.end.Fault.TheVariants as fault;
 ghost use Rattle.sshcore.specs.declared.table.Line.TheVariants as line;
 ghost use Rattle.sshcore.specs.Brings.{Brings, Works, received_one};
 ghost use Rattle.sshcore.specs.EndpointConfig.{role_of, setup_of};
-ghost use Rattle.sshcore.specs.EndData.{Failed, Open, end_data};
+ghost use Rattle.sshcore.specs.EndData.{Failed, Open, by_input, end_data};
 ghost use Rattle.sshcore.specs.Exchanged.{HasForm};
 ghost use Rattle.sshcore.specs.StateData.{state_data};
 ghost use Rattle.sshcore.specs.Replies.{read_reply};
@@ -27,7 +27,8 @@ use sshpacket::Suite;
 use sshwire::Memory;
 
 impl State<'_> {
-    /// Receives a packet with this number: its line of the phase table says what becomes of it.
+    /// Receives a packet with this number: its line of the phase table says what becomes of it. One that says
+    /// nothing is taken only within what may still come of such.
     pub(crate) fn receive<S: Suite, D: Decisions>(
         &mut self,
         config: &Config<'_>,
@@ -41,25 +42,29 @@ impl State<'_> {
         requires short { length payload.now ≤ PACKET_LIMIT }
         ensures brings { OnOk result (HasForm (S.meaning suite.now) (state_data self.old)
             → Brings (setup_of (S.meaning suite.now) (D.policy decisions.now) config.now) (state_data self.old) (state_data self.new) packet payload.now sent.old.items sent.new.items) }
-        ensures kept { OnOk result (end_data self.new.end ≢ Failed fault.Memory) }
+        ensures kept { OnOk result (by_input (end_data self.new.end) ≡ true) }
     {
         let number = kind(payload);
         let waits = self.waits();
-        match line_of(
+        let line = line_of(
             config.role(),
             self.phase,
             self.strict,
             self.guess,
             waits,
             number,
-        ) {
+        );
+        if self.takes_too_much(line, payload) {
+            return self.fail(config, suite, Fault::TooMuchIgnored, sent);
+        }
+        match line {
             Line::Reads => self.read(config, suite, decisions, payload, sent),
             Line::Drops => {
                 self.drop_guess();
                 Ok(())
             }
             Line::Deviates => self.fail(config, suite, Fault::Strict(number), sent),
-            Line::Unknown => self.tell_unknown(config, suite, packet, sent),
+            Line::Unknown => self.tell_unknown(config, suite, payload, packet, sent),
             Line::Unexpected => self.fail(config, suite, Fault::Unexpected(number), sent),
         }
     }
@@ -87,7 +92,7 @@ impl State<'_> {
         ensures works { OnOk result (HasForm (S.meaning suite.now) (state_data self.old)
             → Works (setup_of (S.meaning suite.now) (D.policy decisions.now) config.now) (state_data self.old) (state_data self.new) payload.now sent.old.items sent.new.items
             (read_reply (setup_of (S.meaning suite.now) (D.policy decisions.now) config.now) (state_data self.old).known (kind payload.now) (message_in self.old.shares payload.now))) }
-        ensures kept { OnOk result (end_data self.new.end ≢ Failed fault.Memory) }
+        ensures kept { OnOk result (by_input (end_data self.new.end) ≡ true) }
     {
         match read_exchange(self.alloc, payload, self.shares) {
             Ok(message) => self.work(config, suite, decisions, payload, &message, sent),

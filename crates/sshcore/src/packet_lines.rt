@@ -4,7 +4,7 @@ ghost use Rattle.std.specs.Prelude.{◌≡◌, ◌==◌, false, true};
 ghost use Rattle.sshmsg.specs.Numbers.{kind};
 ghost use Rattle.sshmsg.specs.declared.numbers.TheConstants.{SSH_MSG_USERAUTH_REQUEST, SSH_MSG_USERAUTH_SUCCESS};
 ghost use Rattle.sshcore.specs.Phases.{leaving};
-ghost use Rattle.sshcore.specs.Table.{is_ignored, is_of_auth, is_of_method, is_ruled, is_unknown, line_by, takes_extensions};
+ghost use Rattle.sshcore.specs.Table.{is_ignored, is_of_auth, is_of_method, is_ruled, is_unknown, line_by, is_ignorable, takes_extensions};
 
 use crate::table::{Line, Phase};
 use sshmsg::{
@@ -123,6 +123,14 @@ fn takes_extensions(phase: Phase) -> bool
         Phase::Service | Phase::Auth => true,
         _ => false,
     }
+}
+
+/// Whether messages with this number say nothing to an endpoint: what may come at any time, EXT_INFO, and
+/// what has no meaning here.
+pub(crate) fn is_ignorable(number: u8) -> bool
+    ensures { result ≡ is_ignorable number }
+{
+    is_ignored(number) || number == SSH_MSG_EXT_INFO || is_unknown(number)
 }
 
 /// Whether the number has no meaning here, up to the end of authentication (RFC 4253 section 11.4).

@@ -24,6 +24,8 @@ use crate::config_parts::Attempt;
 use crate::draws::Draws;
 use crate::given::Listener;
 use crate::input::Input;
+use crate::made_with::MadeWith;
+use crate::seen::Seen;
 use crate::server_config::ServerConfig;
 use crate::state::State;
 use crate::waiting::Waiting;
@@ -32,12 +34,14 @@ use sshpacket::Suite;
 use std::marker::Model;
 
 /// An [`AskingEndpoint`] that is paused: all that changes of it, and nothing that it borrows. So whoever runs many of them keeps
-/// them in a table beside the one config that they share, and resumes one when bytes come or an answer is there. What is held
-/// has secrets, so there is no `Debug`.
+/// them in a table beside the one config that they share, and resumes one when bytes come or an answer is there. Proofs know the
+/// config and the suite that it had, and it may be resumed with no other. What is held has secrets, so there is no `Debug`.
 #[derive(Drop)]
-pub struct PausedEndpoint {
+pub struct PausedEndpoint<S> {
     draws: Draws,
     role: Side,
+    made: MadeWith,
+    suite: Seen<S>,
     input: Input,
     state: State<'static>,
     /// How many attempts of the plan are left, from the one on that was made last.
@@ -45,7 +49,8 @@ pub struct PausedEndpoint {
     waiting: Option<Waiting>,
 }
 
-impl Model for PausedEndpoint {
+impl<S> Model for PausedEndpoint<S> {
+    ghost use Rattle.sshcore.specs.MadeWith.{configs_seen};
     ghost use Rattle.sshcore.specs.Paused.{PausedData};
     ghost use Rattle.sshcore.specs.WaitingView.{waiting_of};
     ghost use Rattle.sshcore.specs.AttemptProps.{IsAttempt-prop};
@@ -53,13 +58,15 @@ impl Model for PausedEndpoint {
     ghost use Rattle.std.specs.Coded.{codes};
     ghost use Rattle.std.specs.List.{AllByRecursion-prop};
 
-    ghost Value = { PausedData };
+    ghost Value = { PausedData S };
 
     ghost coded = { Prim.hlevel (codes, AllByRecursion-prop IsAttempt IsAttempt-prop) };
 
     ghost view = { λ p. record {
       draws = p.draws;
       role = p.role;
+      configs = configs_seen p.draws p.made;
+      suites = p.suite.values;
       input = p.input;
       state = p.state;
       left = p.left;
@@ -71,18 +78,18 @@ impl<S: Suite, L: Listener> AskingEndpoint<'_, S, L> {
     /// Pauses it, whether it waits or not, and gives back the config, the suite and the listener that it borrowed. Takes no
     /// memory. [`resume_client`](PausedEndpoint::resume_client) or [`resume_server`](PausedEndpoint::resume_server)
     /// goes on with it.
-    pub fn pause(self) -> PausedEndpoint
+    pub fn pause(self) -> PausedEndpoint<S>
         ensures pauses { IsPaused self.entry result }
-        // It may be resumed with this suite, in this role and with this config.
-        ensures fits { FitsPaused (S.meaning self.entry.suite) self.entry.role self.entry.party result }
+        // It may be resumed in this role, with this config and this suite.
+        ensures fits { FitsPaused S.meaning self.entry.role self.entry.party self.entry.suite result }
         // Its draws are those by which this is its config.
         ensures client { (client : ClientData) (draws : Draws) → self.entry.party ≡ config_of_client (redrawn_client draws client) → result.draws ≡ draws }
         ensures server { (server : ServerData) (draws : Draws) → self.entry.party ≡ config_of_server (redrawn_server draws server) → result.draws ≡ draws }
-        // So it may be resumed with the config that it was made with.
-        ensures fits_client { (client : ClientData) (draws : Draws) → self.entry.role ≡ Client → self.entry.party ≡ config_of_client (redrawn_client draws client)
-            → FitsPaused (S.meaning self.entry.suite) Client (config_of_client (redrawn_client result.draws client)) result }
-        ensures fits_server { (server : ServerData) (draws : Draws) → self.entry.role ≡ Server → self.entry.party ≡ config_of_server (redrawn_server draws server)
-            → FitsPaused (S.meaning self.entry.suite) Server (config_of_server (redrawn_server result.draws server)) result }
+        // So it may be resumed with the config and the suite that it was made with.
+        ensures fits_client { (client : ClientData) (draws : Draws) (suite : S) → self.entry.role ≡ Client → self.entry.party ≡ config_of_client (redrawn_client draws client) → self.entry.suite ≡ suite
+            → FitsPaused S.meaning Client (config_of_client (redrawn_client result.draws client)) suite result }
+        ensures fits_server { (server : ServerData) (draws : Draws) (suite : S) → self.entry.role ≡ Server → self.entry.party ≡ config_of_server (redrawn_server draws server) → self.entry.suite ≡ suite
+            → FitsPaused S.meaning Server (config_of_server (redrawn_server result.draws server)) suite result }
         // It has received and sent the same.
         ensures follows { (d : DecisionsData) (h s : List ℕ) → AskingAfter S.meaning d self.entry h s → PausedAfter (asking_setup S.meaning d self.entry) result h s }
         ensures end { paused_end result ≡ asking_end self.entry }
@@ -91,9 +98,12 @@ impl<S: Suite, L: Listener> AskingEndpoint<'_, S, L> {
         let confirmed = !self.state.waits();
         let left = self.state.left.len();
         let role = self.config.role();
+        let made = self.config.seen();
         PausedEndpoint {
             draws: self.config.into_draws(),
             role,
+            made,
+            suite: Seen::of(self.suite),
             input: self.input,
             state: self.state.with_left(&[], confirmed),
             left,
@@ -102,15 +112,16 @@ impl<S: Suite, L: Listener> AskingEndpoint<'_, S, L> {
     }
 }
 
-impl PausedEndpoint {
-    /// Resumes a client with its config and its suite; the listener may be another. Takes no memory.
-    pub fn resume_client<'a, S: Suite, L: Listener>(
+impl<S: Suite> PausedEndpoint<S> {
+    /// Resumes a client with its config and its suite, those with which it was paused; the listener may be another. Takes no
+    /// memory.
+    pub fn resume_client<'a, L: Listener>(
         self,
         config: &'a ClientConfig,
         suite: &'a S,
         listener: &'a L,
     ) -> AskingEndpoint<'a, S, L>
-        requires fits { FitsPaused (S.meaning suite.now) Client (config_of_client (redrawn_client self.draws config.now)) self }
+        requires fits { FitsPaused S.meaning Client (config_of_client (redrawn_client self.draws config.now)) suite.now self }
         ensures resumes { IsResumed Client (config_of_client (redrawn_client self.draws config.now)) suite.now self result }
         // It has received and sent the same.
         ensures follows { (d : DecisionsData) (h s : List ℕ)
@@ -129,14 +140,15 @@ impl PausedEndpoint {
         )
     }
 
-    /// Resumes a server with its config and its suite; the listener may be another. Takes no memory.
-    pub fn resume_server<'a, S: Suite, L: Listener>(
+    /// Resumes a server with its config and its suite, those with which it was paused; the listener may be another. Takes no
+    /// memory.
+    pub fn resume_server<'a, L: Listener>(
         self,
         config: &'a ServerConfig,
         suite: &'a S,
         listener: &'a L,
     ) -> AskingEndpoint<'a, S, L>
-        requires fits { FitsPaused (S.meaning suite.now) Server (config_of_server (redrawn_server self.draws config.now)) self }
+        requires fits { FitsPaused S.meaning Server (config_of_server (redrawn_server self.draws config.now)) suite.now self }
         ensures resumes { IsResumed Server (config_of_server (redrawn_server self.draws config.now)) suite.now self result }
         // It has received and sent the same.
         ensures follows { (d : DecisionsData) (h s : List ℕ)

@@ -1,8 +1,8 @@
 //! The payloads that an endpoint sends.
 
-ghost use Rattle.std.specs.Prelude.{◌≡◌, ◌<◌, ◌≤◌, ◌+◌, [], IfOk, length};
+ghost use Rattle.std.specs.Prelude.{◌≡◌, ◌<◌, ◌≤◌, ◌+◌, ◌∷◌, [], IfOk, drop, length, map, string_bytes};
 ghost use Rattle.sshwire.specs.declared.limits.TheConstants.{PAYLOAD_LIMIT};
-ghost use Rattle.sshwire.specs.Types.{IsName};
+ghost use Rattle.sshwire.specs.Types.{IsName, names_body};
 ghost use Rattle.sshmsg.specs.MessageData as content;
 ghost use Rattle.sshmsg.specs.View.{message_data};
 ghost use Rattle.sshmsg.specs.Written.{written_message};
@@ -11,11 +11,13 @@ ghost use Rattle.sshpacket.specs.Suite.{FitsShare};
 ghost use Rattle.sshcore.specs.EndpointConfig.{config_data};
 ghost use Rattle.sshcore.specs.Exchange.{own_kexinit};
 ghost use Rattle.sshcore.specs.Made.{IsMade};
-ghost use Rattle.sshcore.specs.Work.{init_for, init_in, reply_in, userauth};
+ghost use Rattle.sshcore.specs.declared.config_parts.TheConstants.{LIST_LIMIT};
+ghost use Rattle.sshcore.specs.Work.{init_for, init_in, reply_in, server_sig_algs, userauth};
 
 use crate::config::Config;
+use crate::config_kexinit::list_of;
 use crate::config_version::bytes_law;
-use sshmsg::{Message, write};
+use sshmsg::{Extension, Message, write};
 use sshpacket::{ShareForm, Suite};
 use sshwire::{Memory, Mpint};
 use std::alloc::Global;
@@ -63,6 +65,30 @@ pub(crate) fn init_payload<S: Suite>(
 {
     let share = suite.public(alloc, kex, config.exchange_random())?;
     share_payload(alloc, suite.share_form(kex), &share)
+}
+
+/// The payload that tells a client the algorithms of users' keys (RFC 8308 section 3.1).
+pub(crate) fn extensions_payload(alloc: Global, names: &[String]) -> Result<Vec<u8>, Memory>
+    requires { length (names_body (map string_bytes names.now)) ≤ LIST_LIMIT }
+    ensures { IfOk result (λ made. IsMade (written_message (content.ExtInfo ((server_sig_algs, names_body (map string_bytes names.now)) ∷ []))) made.items) }
+{
+    sshmsg::lengths_law();
+    sshwire::names_law();
+    let mut list = Vec::new(alloc);
+    list_of(alloc, names)?.write(&mut list)?;
+    let mut extensions = Vec::new(alloc);
+    extensions.push(Extension {
+        name: b"server-sig-algs",
+        value: body_of(&list),
+    })?;
+    payload_from(alloc, Message::ExtInfo { extensions })
+}
+
+/// What stands after a string's length (RFC 4251 section 5).
+fn body_of(string: &[u8]) -> &[u8]
+    ensures { result.now ≡ drop 4 string.now }
+{
+    if string.len() < 4 { &[] } else { &string[4..] }
 }
 
 /// The payload that gives a client's share in this form.

@@ -15,10 +15,11 @@ pub enum Question<'q> {
         /// The public key, as the server sent it.
         blob: &'q [u8],
     },
-    /// Whether a request of authentication is successful by what it proves (RFC 4252 section 5), or whether the key of a query
-    /// would do (section 7). A server asks it. A yes to a request accepts the user, unless methods are required that
-    /// aren't reached yet (section 5.1). It is asked of the method `none` too, whatever methods the server lists: answer no
-    /// to `Proof::None` where nobody is accepted without a proof.
+    /// Whether what a request of authentication claims is accepted for this user (RFC 4252 section 5), or whether the key of a
+    /// query would do (section 7). A server asks it, before it verifies a signature, which it does after a yes alone, once. A
+    /// yes to a request accepts the user, unless its signature is wrong, or methods are required that aren't reached yet
+    /// (section 5.1). It is asked of the method `none` too, whatever methods the server lists: answer no to `Proof::None`
+    /// where nobody is accepted without a proof.
     User {
         /// The number of the request, of requests and queries counted from 1.
         number: u32,
@@ -26,7 +27,7 @@ pub enum Question<'q> {
         user: &'q str,
         /// The name of the service, which is one that the server has.
         service: &'q str,
-        /// What the request proves.
+        /// What the request claims.
         proof: Proof<'q>,
     },
 }
@@ -46,7 +47,7 @@ pub(crate) enum Asked {
     },
 }
 
-/// What the request of a kept question proves.
+/// What the request of a kept question claims.
 #[derive(Drop)]
 pub(crate) enum AskedProof {
     None,

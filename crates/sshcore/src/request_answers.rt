@@ -1,6 +1,6 @@
 //! How a server answers a request of authentication (RFC 4252 sections 5.1 and 7).
 
-ghost use Rattle.std.specs.Prelude.{◌≡◌, ◌≢◌, ◌<◌, ◌≤◌, ◌∷◌, [], Bool, OnOk, length};
+ghost use Rattle.std.specs.Prelude.{◌≡◌, ◌<◌, ◌≤◌, ◌∷◌, [], Bool, OnOk, length, true};
 ghost use Rattle.sshwire.specs.declared.limits.TheConstants.{NAME_LIMIT};
 ghost use Rattle.sshmsg.specs.MessageData as content;
 ghost use Rattle.sshmsg.specs.Written.{written_message};
@@ -13,7 +13,7 @@ ghost use Rattle.sshcore.specs.Attempts.{agreed_by};
 ghost use Rattle.sshcore.specs.Authenticating.{one_request};
 ghost use Rattle.sshcore.specs.Brings.{Gives, IsOngoing};
 ghost use Rattle.sshcore.specs.EndpointConfig.{config_data};
-ghost use Rattle.sshcore.specs.EndData.{Authenticated, Failed, Open, end_data, goes};
+ghost use Rattle.sshcore.specs.EndData.{Authenticated, Failed, Open, by_input, end_data, goes};
 ghost use Rattle.sshcore.specs.StateData.{state_data};
 ghost use Rattle.sshcore.specs.Requests.{more_reply};
 
@@ -42,7 +42,7 @@ impl State<'_> {
           known = one_request (state_data self.old).known;
           sending = (state_data self.new).sending;
         }) }
-        ensures kept { OnOk result (end_data self.new.end ≢ Failed fault.Memory) }
+        ensures kept { OnOk result (by_input (end_data self.new.end) ≡ true) }
     {
         if self.request >= config.tries() {
             return self.fail(config, suite, Fault::TooManyTries, sent);

@@ -1,6 +1,6 @@
 //! Phase auth at a server: requests of authentication (RFC 4252).
 
-ghost use Rattle.std.specs.Prelude.{◌≡◌, ◌≢◌, ◌<◌, ◌≤◌, Bool, None, OnOk, Some, false, length, true};
+ghost use Rattle.std.specs.Prelude.{◌≡◌, ◌<◌, ◌≤◌, Bool, None, OnOk, Some, false, length, true};
 ghost use Rattle.sshmsg.specs.MessageData as content;
 ghost use Rattle.sshmsg.specs.View.{method_data};
 ghost use Rattle.sshpacket.specs.KeysData.{KeysData};
@@ -11,7 +11,7 @@ ghost use Rattle.sshcore.specs.declared.table.Phase.TheVariants as phase;
 ghost use Rattle.sshcore.specs.Authenticating.{FitsMethod, counted_request, one_request, tried_key};
 ghost use Rattle.sshcore.specs.Brings.{Gives, IsOngoing};
 ghost use Rattle.sshcore.specs.EndpointConfig.{config_data};
-ghost use Rattle.sshcore.specs.EndData.{Failed, Open, end_data};
+ghost use Rattle.sshcore.specs.EndData.{Failed, Open, by_input, end_data};
 ghost use Rattle.sshcore.specs.StateData.{state_data};
 ghost use Rattle.sshcore.specs.Reached.{is_complete};
 ghost use Rattle.sshcore.specs.Requests.{is_successful, more_reply, query_answer, request_reply, tried_reply, would_do};
@@ -55,7 +55,7 @@ impl State<'_> {
               (is_successful (S.meaning suite.now) (D.policy decisions.now) (config_data config.now) (state_data self.old).known user.now service.now (method_data method.now));
           sending = (state_data self.new).sending;
         }) }
-        ensures kept { OnOk result (end_data self.new.end ≢ Failed fault.Memory) }
+        ensures kept { OnOk result (by_input (end_data self.new.end) ≡ true) }
     {
         let Some(service) = config.service(service) else {
             return self.fail(config, suite, Fault::Service, sent);
@@ -92,7 +92,7 @@ impl State<'_> {
           carried = tried_key (state_data self.old).carried (method_data method.now) successful;
           sending = (state_data self.new).sending;
         }) }
-        ensures kept { OnOk result (end_data self.new.end ≢ Failed fault.Memory) }
+        ensures kept { OnOk result (by_input (end_data self.new.end) ≡ true) }
     {
         if successful {
             self.keep_key(method)?;
@@ -119,18 +119,18 @@ impl State<'_> {
         ensures gives { OnOk result ((strict : Bool) (next : KeysData)
             → Gives (S.meaning suite.now) (config_data config.now).seed strict next (state_data self.old) (state_data self.new) sent.old.items sent.new.items
             (more_reply (config_data config.now) (state_data self.old).known
-            (query_answer (D.policy decisions.now) (config_data config.now) (state_data self.old).known user.now service.now algorithm.now key.now))) }
+            (query_answer (S.meaning suite.now) (D.policy decisions.now) (config_data config.now) (state_data self.old).known user.now service.now algorithm.now key.now))) }
         ensures stays { OnOk result (IsOngoing (state_data self.new).end → state_data self.new ≡ record (state_data self.old) {
           known = counted_request (state_data self.old).known (tried_with user.now service.now (content.PublicKeyQuery algorithm.now key.now) false);
           sending = (state_data self.new).sending;
         }) }
-        ensures kept { OnOk result (end_data self.new.end ≢ Failed fault.Memory) }
+        ensures kept { OnOk result (by_input (end_data self.new.end) ≡ true) }
     {
         if config.tries() <= self.request {
             return self.fail(config, suite, Fault::TooManyTries, sent);
         }
         self.forget_others(user, service);
-        match self.would_do(config, decisions, user, service, algorithm, key) {
+        match self.would_do(config, suite, decisions, user, service, algorithm, key) {
             None => self.refuse(config, suite, false, sent),
             Some(name) => self.confirm(config, suite, name, key, sent),
         }
@@ -157,7 +157,7 @@ impl State<'_> {
           known = counted_request (state_data self.old).known (tried_with user.now service.now (method_data method.now) true);
           sending = (state_data self.new).sending;
         }) }
-        ensures kept { OnOk result (end_data self.new.end ≢ Failed fault.Memory) }
+        ensures kept { OnOk result (by_input (end_data self.new.end) ≡ true) }
     {
         self.forget_others(user, service);
         self.reach(user, service, method)?;

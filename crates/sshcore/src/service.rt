@@ -1,13 +1,13 @@
 //! Phase service: the request of the service of authentication, and its answer (RFC 4253 section 10).
 
-ghost use Rattle.std.specs.Prelude.{◌≡◌, ◌≢◌, ◌≤◌, Bool, OnOk, length};
+ghost use Rattle.std.specs.Prelude.{◌≡◌, ◌≤◌, Bool, OnOk, length, true};
 ghost use Rattle.sshpacket.specs.KeysData.{KeysData};
 ghost use Rattle.sshneg.specs.declared.side.Side.TheVariants.{Client, Server};
 ghost use Rattle.sshcore.specs.declared.end.Fault.TheVariants as fault;
 ghost use Rattle.sshcore.specs.declared.table.Phase.TheVariants as phase;
 ghost use Rattle.sshcore.specs.Brings.{Gives, IsOngoing, StandsAt, received_one};
 ghost use Rattle.sshcore.specs.EndpointConfig.{config_data, role_of};
-ghost use Rattle.sshcore.specs.EndData.{Failed, Open, end_data, goes};
+ghost use Rattle.sshcore.specs.EndData.{Failed, Open, by_input, end_data, goes};
 ghost use Rattle.sshcore.specs.StateData.{state_data};
 ghost use Rattle.sshcore.specs.Work.{accept_reply, banner_by, service_reply};
 
@@ -38,7 +38,7 @@ impl State<'_> {
         ensures carries { OnOk result ((state_data self.new).carried ≡ (state_data self.old).carried) }
         ensures stands { OnOk result (IsOngoing (state_data self.new).end
             → StandsAt (state_data self.new) phase.Auth (state_data self.old).guess (received_one (state_data self.old).known)) }
-        ensures kept { OnOk result (end_data self.new.end ≢ Failed fault.Memory) }
+        ensures kept { OnOk result (by_input (end_data self.new.end) ≡ true) }
     {
         if service != USERAUTH {
             return self.fail(config, suite, Fault::Service, sent);
@@ -94,7 +94,7 @@ impl State<'_> {
         ensures carries { OnOk result ((state_data self.new).carried ≡ (state_data self.old).carried) }
         ensures stands { OnOk result (IsOngoing (state_data self.new).end
             → StandsAt (state_data self.new) phase.Auth (state_data self.old).guess (received_one (state_data self.old).known)) }
-        ensures kept { OnOk result (end_data self.new.end ≢ Failed fault.Memory) }
+        ensures kept { OnOk result (by_input (end_data self.new.end) ≡ true) }
     {
         if service != USERAUTH {
             let fault = Fault::Unexpected(SSH_MSG_SERVICE_ACCEPT);

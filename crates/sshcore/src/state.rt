@@ -11,6 +11,7 @@ ghost use Rattle.sshcore.specs.AttemptProps.{IsAttempt-prop};
 ghost use Rattle.sshcore.specs.ConfigRules.{IsAttempt};
 ghost use Rattle.sshcore.specs.ConfigView.{attempt_data};
 ghost use Rattle.sshcore.specs.Phases.{past_kexinit};
+ghost use Rattle.sshcore.specs.Work.{asks_for_extensions};
 ghost use Rattle.sshcore.specs.EndData.{Open, end_data};
 
 use crate::algorithms::Algorithms;
@@ -47,10 +48,15 @@ pub(crate) struct State<'a> {
     pub(crate) strict: bool,
     /// Whether no payload was received.
     pub(crate) first: bool,
+    /// How many bytes of packets that say nothing may still come, from NEWKEYS on and where there is a
+    /// limit.
+    pub(crate) allowance: Option<u32>,
     /// The text of the peer's version line.
     pub(crate) version: Vec<u8>,
     /// The payload of the peer's KEXINIT.
     pub(crate) kexinit: Vec<u8>,
+    /// Whether that asks for extensions (RFC 8308 section 2.1).
+    pub(crate) asks: bool,
     pub(crate) algorithms: Option<Algorithms>,
     /// The form of shares in 30 and 31.
     pub(crate) shares: ShareForm,
@@ -78,6 +84,7 @@ pub(crate) struct State<'a> {
     pub(crate) number_out: u32,
     ghost version_short: { length version.items ≤ LINE_LIMIT },
     ghost kexinit_short: { length kexinit.items ≤ PACKET_LIMIT },
+    ghost asked: { asks ≡ asks_for_extensions kexinit.items },
     ghost chosen: { is_some algorithms ≡ past_kexinit phase },
     ghost session_short: { length session.items ≤ DIGEST_LIMIT },
     ghost granted: { end_data end ≡ Open → request ≤ TRIES_LIMIT },
@@ -93,6 +100,7 @@ impl<'a> State<'a> {
     ghost use Rattle.sshcore.specs.Plan.{is_waiting};
 
     /// Before any byte.
+    #[tactic(auto, using(crate::proofs::ExtensionLemmas::none_asked))]
     pub(crate) fn new(alloc: Global, config: &Config<'a>) -> State<'a>
         ensures { state_data result ≡ begun (config_data config.now) }
     {
@@ -103,8 +111,10 @@ impl<'a> State<'a> {
             guess: false,
             strict: false,
             first: true,
+            allowance: None,
             version: Vec::new(alloc),
             kexinit: Vec::new(alloc),
+            asks: false,
             algorithms: None,
             shares: ShareForm::Mpint,
             session: Vec::new(alloc),
@@ -139,8 +149,10 @@ impl<'a> State<'a> {
             guess: self.guess,
             strict: self.strict,
             first: self.first,
+            allowance: self.allowance,
             version: self.version,
             kexinit: self.kexinit,
+            asks: self.asks,
             algorithms: self.algorithms,
             shares: self.shares,
             session: self.session,

@@ -1,6 +1,6 @@
 //! What a message that has a place does, by the phase that it has it in.
 
-ghost use Rattle.std.specs.Prelude.{◌≡◌, ◌≢◌, ◌≤◌, OnOk, false, length, true};
+ghost use Rattle.std.specs.Prelude.{◌≡◌, ◌≤◌, OnOk, false, length, true};
 ghost use Rattle.sshmsg.specs.Messages.{Spells};
 ghost use Rattle.sshmsg.specs.Numbers.{kind, number_of};
 ghost use Rattle.sshmsg.specs.View.{message_data};
@@ -9,7 +9,7 @@ ghost use Rattle.sshcore.specs.declared.end.Fault.TheVariants as fault;
 ghost use Rattle.sshcore.specs.declared.table.Line.TheVariants as line;
 ghost use Rattle.sshcore.specs.Brings.{Works};
 ghost use Rattle.sshcore.specs.EndpointConfig.{role_of, setup_of};
-ghost use Rattle.sshcore.specs.EndData.{Failed, Open, end_data};
+ghost use Rattle.sshcore.specs.EndData.{Failed, Open, by_input, end_data};
 ghost use Rattle.sshcore.specs.Exchanged.{HasForm};
 ghost use Rattle.sshcore.specs.StateData.{state_data};
 ghost use Rattle.sshcore.specs.Authenticating.{IsOfRequests};
@@ -47,7 +47,7 @@ impl State<'_> {
         ensures works { OnOk result (HasForm (S.meaning suite.now) (state_data self.old)
             → Works (setup_of (S.meaning suite.now) (D.policy decisions.now) config.now) (state_data self.old) (state_data self.new) payload.now sent.old.items sent.new.items
             (work (setup_of (S.meaning suite.now) (D.policy decisions.now) config.now) (state_data self.old).known (message_data message.now))) }
-        ensures kept { OnOk result (end_data self.new.end ≢ Failed fault.Memory) }
+        ensures kept { OnOk result (by_input (end_data self.new.end) ≡ true) }
     {
         sshmsg::messages_law();
         sshmsg::numbers_law();
@@ -65,7 +65,7 @@ impl State<'_> {
                 self.work_exchange(config, suite, decisions, payload, message, sent)
             }
             Message::NewKeys => {
-                self.receive_new_keys();
+                self.receive_new_keys(config);
                 Ok(())
             }
             Message::ServiceRequest { service } => {
@@ -81,7 +81,7 @@ impl State<'_> {
                 self.work_auth(config, suite, decisions, payload, message, sent)
             }
             _ => {
-                self.first = false;
+                self.count(payload);
                 Ok(())
             }
         }
@@ -105,7 +105,7 @@ impl State<'_> {
         ensures works { OnOk result (HasForm (S.meaning suite.now) (state_data self.old)
             → Works (setup_of (S.meaning suite.now) (D.policy decisions.now) config.now) (state_data self.old) (state_data self.new) payload.now sent.old.items sent.new.items
             (work (setup_of (S.meaning suite.now) (D.policy decisions.now) config.now) (state_data self.old).known (message_data message.now))) }
-        ensures kept { OnOk result (end_data self.new.end ≢ Failed fault.Memory) }
+        ensures kept { OnOk result (by_input (end_data self.new.end) ≡ true) }
     {
         sshmsg::messages_law();
         sshmsg::numbers_law();
@@ -161,7 +161,7 @@ impl State<'_> {
         ensures works { OnOk result (HasForm (S.meaning suite.now) (state_data self.old)
             → Works (setup_of (S.meaning suite.now) (D.policy decisions.now) config.now) (state_data self.old) (state_data self.new) payload.now sent.old.items sent.new.items
             (work (setup_of (S.meaning suite.now) (D.policy decisions.now) config.now) (state_data self.old).known (message_data message.now))) }
-        ensures kept { OnOk result (end_data self.new.end ≢ Failed fault.Memory) }
+        ensures kept { OnOk result (by_input (end_data self.new.end) ≡ true) }
     {
         sshmsg::messages_law();
         sshmsg::numbers_law();

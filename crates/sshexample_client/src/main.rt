@@ -69,7 +69,17 @@ fn trusted_hash(rt: &HostRuntime) -> anyhow::Result<Vec<u8>> {
 fn config_of(rt: &HostRuntime, user: &str) -> anyhow::Result<ClientConfig> {
     let password = env::var(rt, "SSH_PASSWORD").context("SSH_PASSWORD")?;
     let parts = Box::new(rt.alloc(), parts_of(rt, user, &password)?)?;
-    Ok(ClientConfig::new(rt.alloc(), Box::into_inner(parts))?)
+    let config = ClientConfig::new(rt.alloc(), Box::into_inner(parts))?;
+    judged(&config)?;
+    Ok(config)
+}
+
+/// That the suite has all that the config names.
+fn judged(config: &ClientConfig) -> anyhow::Result<()> {
+    match config.judge(&DeployedSuite) {
+        Ok(()) => Ok(()),
+        Err(fault) => bail!("{fault}"),
+    }
 }
 
 fn word(rt: &HostRuntime, place: usize) -> anyhow::Result<String> {
@@ -99,6 +109,7 @@ fn parts_of(rt: &HostRuntime, user: &str, password: &str) -> anyhow::Result<Clie
             cookie: random(rt, 16)?,
             exchange_random: random(rt, 32)?,
             padding_seed: random(rt, 32)?,
+            ignored_limit: Some(1 << 20),
         },
         server_host_key_algorithms: list(alloc, "ssh-ed25519")?,
         guess: false,

@@ -4,9 +4,10 @@
 //! program limits how many connections are open and how long each may take to log in, and goes on with the sessions.
 #![tactic(auto)]
 
-use anyhow::Context;
+use anyhow::{Context, bail};
 use sshcore::{Credential, Draws, End, Endpoint, ServerConfig};
 use sshsuites::{LabDecisions, LabSuite, lab_server_parts};
+use std::alloc::Global;
 use std::io;
 use std::random::RandomSource;
 
@@ -23,9 +24,24 @@ fn main(rt: HostRuntime) -> anyhow::Result<()> {
     let lines = io::read_to_string(rt.alloc(), rt.stdin())?;
     let mut decisions = LabDecisions::new(rt.alloc());
     decisions.allow("al", &Credential::None)?;
-    let parts = Box::new(rt.alloc(), lab_server_parts(rt.alloc())?)?;
-    let config = ServerConfig::new(rt.alloc(), Box::into_inner(parts))?;
+    let config = lab_config(rt.alloc())?;
     serve(&rt, &config, &decisions, &lines)
+}
+
+fn lab_config(alloc: Global) -> anyhow::Result<ServerConfig> {
+    let mut parts = Box::new(alloc, lab_server_parts(alloc)?)?;
+    parts.side.ignored_limit = Some(1 << 20);
+    let config = ServerConfig::new(alloc, Box::into_inner(parts))?;
+    judged(&config)?;
+    Ok(config)
+}
+
+/// That the suite has all that the config names, and holds its private keys.
+fn judged(config: &ServerConfig) -> anyhow::Result<()> {
+    match config.judge(&LabSuite) {
+        Ok(()) => Ok(()),
+        Err(fault) => bail!("{fault}"),
+    }
 }
 
 /// Serves all connections until each has ended.

@@ -48,8 +48,19 @@ fn main(rt: HostRuntime) -> anyhow::Result<()> {
 }
 
 fn lab_config(alloc: Global) -> anyhow::Result<ServerConfig> {
-    let parts = Box::new(alloc, lab_server_parts(alloc)?)?;
-    Ok(ServerConfig::new(alloc, Box::into_inner(parts))?)
+    let mut parts = Box::new(alloc, lab_server_parts(alloc)?)?;
+    parts.side.ignored_limit = Some(1 << 20);
+    let config = ServerConfig::new(alloc, Box::into_inner(parts))?;
+    judged(&config)?;
+    Ok(config)
+}
+
+/// That the suite has all that the config names, and holds its private keys.
+fn judged(config: &ServerConfig) -> anyhow::Result<()> {
+    match config.judge(&LabSuite) {
+        Ok(()) => Ok(()),
+        Err(fault) => bail!("{fault}"),
+    }
 }
 
 /// What the lines say happens, one after the other.

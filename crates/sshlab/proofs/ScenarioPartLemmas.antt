@@ -53,6 +53,7 @@ server_from s statements = record {
   services = set_or s.services (filter_map services_in statements);
   methods = set_or s.methods (filter_map methods_in statements);
   required = set_or s.required (filter_map required_in statements);
+  signature_algorithms = s.signature_algorithms;
   tries = set_or s.tries (filter_map tries_in statements);
   banner = set_or s.banner (filter_map banner_in statements);
   notices = s.notices ++ filter_map notice_in statements;

@@ -111,6 +111,7 @@ server_of_lines statements = record {
   services = set_or lab_server.services (filter_map services_in statements);
   methods = set_or lab_server.methods (filter_map methods_in statements);
   required = set_or lab_server.required (filter_map required_in statements);
+  signature_algorithms = lab_server.signature_algorithms;
   tries = set_or lab_server.tries (filter_map tries_in statements);
   banner = set_or lab_server.banner (filter_map banner_in statements);
   notices = filter_map notice_in statements;

@@ -3,18 +3,19 @@
 use Rattle.std.proofs.Common.{◌≡◌, ℕ, ◌+◌, ◌≤◌, List, [], ◌∷◌, ◌++◌, length, take, refl, sym, ap, ◌∙◌, subst, arith, None, Ok, Err, Result}
 use Rattle.std.proofs.lemmas.List.{append-nil, length-append}
 use Rattle.sshwire.specs.declared.fault.WireFault.{WireFault}
+use Rattle.sshwire.specs.declared.line_form.LineForm.{LineForm}
 use Rattle.sshwire.specs.declared.line_reader.LineStep.{LineStep}
 use Rattle.sshwire.specs.declared.line_reader.LineStep.TheVariants as line_step
-use Rattle.sshwire.specs.Feeding.{PreambleAnswer, StandsOpen}
+use Rattle.sshwire.specs.Feeding.{PreambleAnswerBy, StandsOpen}
 use Rattle.sshwire.specs.LineReaderData.{Finished, LineReaderData, Progress, Refused, Waits}
-use Rattle.sshwire.specs.Lines.{Preamble}
+use Rattle.sshwire.specs.Lines.{PreambleBy}
 use Rattle.sshpacket.specs.declared.fault.PacketFault.{PacketFault}
 use Rattle.sshpacket.specs.declared.reader.PacketReader.{PacketReader}
 use Rattle.sshpacket.specs.declared.reader.PacketStep.{PacketStep}
 use Rattle.sshpacket.specs.declared.reader.PacketStep.TheVariants.{More, Payload}
 use Rattle.sshpacket.specs.Parse.{Parse, OfLine, OfPacket, parse_packet, refused, unfinished, whole}
 use Rattle.sshpacket.specs.Receiving.{ReceivesLinesOn, ReceivesOn}
-use Rattle.sshpacket.specs.PreambleParser.{PreambleMeans, preamble_parser}
+use Rattle.sshpacket.specs.PreambleParser.{PreambleMeansBy, preamble_parser_by}
 use Rattle.sshpacket.specs.PacketReaderData.{PacketReaderData, ParseAnswer, ReaderLeaves, last_used, protection_at}
 use Rattle.sshpacket.specs.Stream.{IsIncremental, Parser, Received, Units}
 use Rattle.sshpacket.specs.Suite.{SuiteData}
@@ -34,32 +35,33 @@ receives m parsers each stream us old new piece (Ok (Payload payload seq used)) 
 receives m parsers each stream us old new piece (Err f) h e a l = λ other.
     received_refusal parsers each stream piece us old.held (OfPacket f) (last_used new) h l.1 (ap (λ (parser : Parser). parser (old.held ++ piece)) e ∙ l.2 other)
 
--- what the law of parsers says of lines
-pub record IsLinesParser : Type 0 where
-  pub only : (k : ℕ) (bytes : List ℕ) (f : Parse) → PreambleMeans k bytes f → preamble_parser k bytes ≡ f
-  pub preamble : (k : ℕ) (text bytes more : List ℕ) → Preamble k text bytes → preamble_parser k (bytes ++ more) ≡ whole text (length bytes)
+module _ (form : LineForm) where
+  -- what the law of parsers says of lines
+  pub record IsLinesParser : Type 0 where
+    pub only : (k : ℕ) (bytes : List ℕ) (f : Parse) → PreambleMeansBy form k bytes f → preamble_parser_by form k bytes ≡ f
+    pub preamble : (k : ℕ) (text bytes more : List ℕ) → PreambleBy form k text bytes → preamble_parser_by form k (bytes ++ more) ≡ whole text (length bytes)
 
--- A line reader that stands open has received no unit.
-pub stands : IsLinesParser → (parsers : Units → Parser) (k : ℕ) (stream : List ℕ) (progress : Progress) → parsers [] ≡ preamble_parser k
-    → StandsOpen k stream progress → Received parsers stream [] stream None
-stands law parsers k stream (Waits left line) e o = record { read = refl; then_rest = ap (λ (parser : Parser). parser stream) e ∙ law.only k stream unfinished (left, line, o) }
-stands law parsers k stream Finished e o = absurd o
-stands law parsers k stream (Refused code) e o = absurd o
+  -- A line reader that stands open has received no unit.
+  pub stands : IsLinesParser → (parsers : Units → Parser) (k : ℕ) (stream : List ℕ) (progress : Progress) → parsers [] ≡ preamble_parser_by form k
+      → StandsOpen k stream progress → Received parsers stream [] stream None
+  stands law parsers k stream (Waits left line) e o = record { read = refl; then_rest = ap (λ (parser : Parser). parser stream) e ∙ law.only k stream unfinished (left, line, o) }
+  stands law parsers k stream Finished e o = absurd o
+  stands law parsers k stream (Refused code) e o = absurd o
 
--- It goes on standing at the stream.
-pub receives_lines : IsLinesParser → (parsers : Units → Parser) → ((us : Units) → IsIncremental (parsers us)) → (k : ℕ) (stream piece : List ℕ) (old : Progress) (new : LineReaderData)
-    (result : Result LineStep WireFault) → parsers [] ≡ preamble_parser k → StandsOpen k stream old → PreambleAnswer k stream piece result new
-    → ReceivesLinesOn parsers stream piece result new
-receives_lines law parsers each k stream piece old new (Ok line_step.More) e o a = stands law parsers k (stream ++ piece) new.progress e a.0
-receives_lines law parsers each k stream piece old new (Ok (line_step.Done version used)) e o a =
-    let all : List ℕ = stream ++ take used piece in
-    let seen : preamble_parser k all ≡ whole version (length all)
-    = ap (λ (x : List ℕ). preamble_parser k x) (sym (append-nil all)) ∙ law.preamble k version all [] a.1 in
-    (a.0, received_push parsers each stream (take used piece) [] stream version None (stands law parsers k stream old e o) (ap (λ (parser : Parser). parser all) e ∙ seen))
-receives_lines law parsers each k stream piece old new (Err code) e o a = λ other.
-    let told = a.0 other in
-    let seen : parsers [] (stream ++ piece) ≡ refused (OfLine code) (length stream + new.taken)
-    = ap (λ (parser : Parser). parser (stream ++ piece)) e ∙ law.only k (stream ++ piece) (refused (OfLine code) (length stream + new.taken)) (told.0, sym told.1, told.2) in
-    let within : length stream + new.taken ≤ length (stream ++ piece) = ((each []).refused_again (stream ++ piece) (OfLine code) (length stream + new.taken) seen).0 in
-    let all : length (stream ++ piece) ≡ length stream + length piece = length-append stream piece in
-    received_refusal parsers each stream piece [] stream (OfLine code) new.taken (stands law parsers k stream old e o) (omega arith) seen
+  -- It goes on standing at the stream.
+  pub receives_lines : IsLinesParser → (parsers : Units → Parser) → ((us : Units) → IsIncremental (parsers us)) → (k : ℕ) (stream piece : List ℕ) (old : Progress) (new : LineReaderData)
+      (result : Result LineStep WireFault) → parsers [] ≡ preamble_parser_by form k → StandsOpen k stream old → PreambleAnswerBy form k stream piece result new
+      → ReceivesLinesOn parsers stream piece result new
+  receives_lines law parsers each k stream piece old new (Ok line_step.More) e o a = stands law parsers k (stream ++ piece) new.progress e a.0
+  receives_lines law parsers each k stream piece old new (Ok (line_step.Done version used)) e o a =
+      let all : List ℕ = stream ++ take used piece in
+      let seen : preamble_parser_by form k all ≡ whole version (length all)
+      = ap (λ (x : List ℕ). preamble_parser_by form k x) (sym (append-nil all)) ∙ law.preamble k version all [] a.1 in
+      (a.0, received_push parsers each stream (take used piece) [] stream version None (stands law parsers k stream old e o) (ap (λ (parser : Parser). parser all) e ∙ seen))
+  receives_lines law parsers each k stream piece old new (Err code) e o a = λ other.
+      let told = a.0 other in
+      let seen : parsers [] (stream ++ piece) ≡ refused (OfLine code) (length stream + new.taken)
+      = ap (λ (parser : Parser). parser (stream ++ piece)) e ∙ law.only k (stream ++ piece) (refused (OfLine code) (length stream + new.taken)) (told.0, sym told.1, told.2) in
+      let within : length stream + new.taken ≤ length (stream ++ piece) = ((each []).refused_again (stream ++ piece) (OfLine code) (length stream + new.taken) seen).0 in
+      let all : length (stream ++ piece) ≡ length stream + length piece = length-append stream piece in
+      received_refusal parsers each stream piece [] stream (OfLine code) new.taken (stands law parsers k stream old e o) (omega arith) seen

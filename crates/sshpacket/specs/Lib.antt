@@ -1,6 +1,7 @@
 pub mod Receiving
 pub mod Joined
 pub mod ClearReaderData
+pub mod Inventory
 pub mod KeysData
 pub mod KeyNames
 pub mod NoSuite

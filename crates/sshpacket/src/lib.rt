@@ -10,6 +10,7 @@
 
 mod clear_reader;
 mod fault;
+mod inventory;
 mod keys;
 mod limits;
 mod limits_laws;
@@ -25,6 +26,7 @@ mod write;
 
 pub use clear_reader::ClearReader;
 pub use fault::PacketFault;
+pub use inventory::Inventory;
 pub use keys::{KeyParts, Keys};
 pub use limits::{
     BLOB_LIMIT, BLOCK_LIMIT, DIGEST_LIMIT, KEY_LIMIT, PACKET_LIMIT, SHARE_LIMIT, SIGNATURE_LIMIT,
@@ -37,6 +39,8 @@ pub use protection::leading_uint32;
 pub use reader::{PacketReader, PacketStep};
 pub use room::ROOM_KEPT;
 pub use sshwire::ShareForm;
-pub use stream_laws::{joined_law, parser_law, places_law, receiving_law, stream_law};
+pub use stream_laws::{
+    joined_law, lines_by_law, parser_law, places_law, receiving_law, stream_law,
+};
 pub use suite::{AgreeingSuite, Capability, KeyLens, Need, Response, Suite};
 pub use write::{write_clear, write_sealed, write_with_padding};

@@ -237,6 +237,14 @@ impl PacketReader {
         self.unfinished.len()
     }
 
+    /// The fault that was found, which is answered for good; none as long as packets are read. It takes no memory.
+    #[tactic(auto, unfolding(crate::specs::PacketReaderData::packet_reader_data))]
+    pub fn fault(&self) -> Option<PacketFault>
+        ensures { result ≡ (packet_reader_data self.now).fault }
+    {
+        self.fault
+    }
+
     /// Whether no byte of an unfinished packet is held, so that keys may be set. It takes no memory.
     #[tactic(auto, unfolding(crate::specs::PacketReaderData::packet_reader_data))]
     pub fn is_idle(&self) -> bool

@@ -2,10 +2,11 @@
 
 ghost use Rattle.std.specs.Prelude.{◌≡◌, ◌≤◌, ◌+◌, ℕ, Bool, true, if◌then◌else◌, List, [], ◌∷◌, ◌++◌, length, drop, take, Option, None, Some, Result};
 ghost use Rattle.sshwire.specs.declared.fault.WireFault.{WireFault};
+ghost use Rattle.sshwire.specs.declared.line_form.LineForm.{LineForm};
 ghost use Rattle.sshwire.specs.declared.line_reader.LineStep.{LineStep};
-ghost use Rattle.sshwire.specs.Feeding.{PreambleAnswer, StandsOpen};
+ghost use Rattle.sshwire.specs.Feeding.{PreambleAnswer, PreambleAnswerBy, StandsOpen};
 ghost use Rattle.sshwire.specs.LineReaderData.{LineReaderData, Progress};
-ghost use Rattle.sshwire.specs.Lines.{Preamble};
+ghost use Rattle.sshwire.specs.Lines.{Preamble, PreambleBy};
 ghost use Rattle.sshwire.specs.Types.{IsBytes};
 ghost use Rattle.sshpacket.specs.declared.fault.PacketFault.{PacketFault};
 ghost use Rattle.sshpacket.specs.declared.reader.PacketReader.{PacketReader};
@@ -13,7 +14,7 @@ ghost use Rattle.sshpacket.specs.declared.reader.PacketStep.{PacketStep};
 ghost use Rattle.sshpacket.specs.Parse.{Parse, Refusal, ProtectionData, parse_packet, refused, unfinished, whole};
 ghost use Rattle.sshpacket.specs.Receiving.{ReceivesLinesOn, ReceivesOn};
 ghost use Rattle.sshpacket.specs.Joined.{Joined};
-ghost use Rattle.sshpacket.specs.PreambleParser.{PreambleMeans, preamble_parser};
+ghost use Rattle.sshpacket.specs.PreambleParser.{PreambleMeans, PreambleMeansBy, preamble_parser, preamble_parser_by};
 ghost use Rattle.sshpacket.specs.Places.{EachPlace, IsPrefix, after_first, count_places, first_where, flat_places, stands};
 ghost use Rattle.sshpacket.specs.PacketReaderData.{PacketReaderData, ParseAnswer, ReaderLeaves, protection_at};
 ghost use Rattle.sshpacket.specs.Stream.{IsIncremental, IsRest, Linked, Parser, Read, Received, ReceivedAll, Same, Sent, Spelled, Units};
@@ -73,6 +74,29 @@ pub fn parser_law()
     ensures preamble { (k : ℕ) (text bytes more : List ℕ) → Preamble k text bytes → preamble_parser k (bytes ++ more) ≡ whole text (length bytes) }
 {
     sshwire::reading_law();
+}
+
+/// The law of lines that are read by any form: what `parser_law` and `receiving_law` say of them by the
+/// letter. The answers are those of `PeerLineReader::feed` in the words of `LineReader::feed` (`answer_of`).
+pub fn lines_by_law()
+    ensures lines { (form : LineForm) (k : ℕ) → IsIncremental (preamble_parser_by form k) }
+
+    // What is read of lines stands there, and what stands there is read: a preamble as its version, whatever follows.
+    ensures found { (form : LineForm) (k : ℕ) (bytes : List ℕ) → PreambleMeansBy form k bytes (preamble_parser_by form k bytes) }
+    ensures only { (form : LineForm) (k : ℕ) (bytes : List ℕ) (f : Parse) → PreambleMeansBy form k bytes f → preamble_parser_by form k bytes ≡ f }
+    ensures preamble { (form : LineForm) (k : ℕ) (text bytes more : List ℕ) → PreambleBy form k text bytes → preamble_parser_by form k (bytes ++ more) ≡ whole text (length bytes) }
+
+    // What is read by the letter is read so by each form.
+    ensures wider { (form : LineForm) (k : ℕ) (bytes text : List ℕ) (len : ℕ) → preamble_parser k bytes ≡ whole text len → preamble_parser_by form k bytes ≡ whole text len }
+
+    // A line reader that stands open at the stream has received no unit of it, and goes on standing there.
+    ensures stands { (form : LineForm) (parsers : Units → Parser) (k : ℕ) (stream : List ℕ) (progress : Progress)
+        → parsers [] ≡ preamble_parser_by form k → StandsOpen k stream progress → Received parsers stream [] stream None }
+    ensures receives_lines { (form : LineForm) (parsers : Units → Parser) → ((us : Units) → IsIncremental (parsers us)) → (k : ℕ) (stream piece : List ℕ)
+        (old : Progress) (new : LineReaderData) (result : Result LineStep WireFault)
+        → parsers [] ≡ preamble_parser_by form k → StandsOpen k stream old → PreambleAnswerBy form k stream piece result new → ReceivesLinesOn parsers stream piece result new }
+{
+    sshwire::reading_by_law();
 }
 
 /// The law of streams: a stream has one reading, which grows with the stream, and what is received of

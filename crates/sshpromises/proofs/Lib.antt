@@ -1,4 +1,5 @@
 pub mod OwnedLemmas
+pub mod PauseLemmas
 pub mod RequestLemmas
 pub mod SessionLemmas
 pub mod WorldLemmas

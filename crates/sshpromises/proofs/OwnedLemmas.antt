@@ -22,6 +22,11 @@ module _ {T E : Type 0} where
   where_both (Ok x) p q f = f p q
   where_both (Err e) p q f = tt
 
+  -- beside what is true anyhow
+  pub with_first : {P : Type 0} (r : Result T E) (Q : T → Type 0) → P → IfOk r Q → IfOk r (λ v. P × Q v)
+  with_first (Ok v) Q p q = (p, q)
+  with_first (Err e) Q p q = tt
+
 module _ {T U E : Type 0} where
   -- what is true of the value once it is done
   pub once_ok : (r : Result T E) (Q : T → Type 0) (u : U) (done : Result U E) (value : T) → IfOk r (λ v. v ≡ value) → IfOk r (λ _. done ≡ Ok u) → OnOk done (Q value) → IfOk r Q

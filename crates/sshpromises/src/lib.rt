@@ -4,8 +4,10 @@
 #![tactic(auto)]
 
 mod owned;
+mod pauses;
 mod sessions;
 mod worlds;
 
+pub use pauses::{rested_client, rested_server};
 pub use sessions::{hand_over, handed_by_world, into_links, joined_by_hand};
 pub use worlds::{any_two, foretold, same_ends, schedule_ends, settled, settles_from_anywhere};

@@ -28,7 +28,8 @@ pub(crate) fn beside<A: Drop, B: Drop>(first: A, other: Result<B, Memory>) -> Re
 
 /// Both values, where there are both.
 pub(crate) fn both<A: Drop, B: Drop>(one: Option<A>, other: Option<B>) -> Option<(A, B)>
-    ensures { (p : A × B) → result ≡ Some p → (one ≡ Some p.0) × (other ≡ Some p.1) }
+    ensures each { (p : A × B) → result ≡ Some p → (one ≡ Some p.0) × (other ≡ Some p.1) }
+    ensures there { (a : A) (b : B) → one ≡ Some a → other ≡ Some b → result ≡ Some (a, b) }
 {
     match (one, other) {
         (Some(one), Some(other)) => Some((one, other)),

@@ -20,7 +20,7 @@ pub fn hand_over<S: Suite, D: Decisions>(
     client: Endpoint<'_, S, D>,
     server: Endpoint<'_, S, D>,
 ) -> Option<(Session, Session)>
-    ensures { IsJoinedEnd S.meaning D.policy client.entry server.entry → (p : Session × Session) → result ≡ Some p → AreCrosswise p.0 p.1 }
+    ensures { IsJoinedEnd S.meaning D.policy client.entry server.entry → (p : Session × Session) × (result ≡ Some p) × AreCrosswise p.0 p.1 }
 {
     session_law::<S, D>();
     let of_client = client.into_session();

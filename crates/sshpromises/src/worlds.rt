@@ -1,11 +1,11 @@
 //! What is promised of worlds.
 
-ghost use Rattle.std.specs.Prelude.{◌≡◌, ◌≢◌, ◌↔◌, IfOk, OnOk};
+ghost use Rattle.std.specs.Prelude.{◌≡◌, ◌≢◌, ◌↔◌, ◌*◌, ◌+◌, IfOk, OnOk, length};
 ghost use Rattle.sshcore.specs.EndData.{AgreedData, Authenticated, Open, end_data};
 ghost use Rattle.sshworld.specs.Outcome.{outcome};
 ghost use Rattle.sshworld.specs.WorldCourse.{AreUnderstoodIn};
 ghost use Rattle.sshworld.specs.Worlds.{Complete, HadMemory};
-ghost use Rattle.sshpromises.specs.Claims.{EndsWell, EndsWellOnce, PairIs};
+ghost use Rattle.sshpromises.specs.Claims.{EndsWell, EndsWellOnce, HasRun, HasSettled, PairIs};
 
 use crate::owned::{beside, once};
 use sshcore::{ClientConfig, Decisions, End, ServerConfig};
@@ -47,6 +47,8 @@ pub fn schedule_ends<'a, S: AgreeingSuite, D: Decisions>(
     ensures server_config { IfOk result (λ w. w.server_config ≡ server.now) }
     ensures suite { IfOk result (λ w. w.suite ≡ suite.now) }
     ensures decisions { IfOk result (λ w. w.decisions ≡ decisions.now) }
+    // All deliveries of the schedule were done, from a new world on.
+    ensures ran { IfOk result (λ w. HasRun S.meaning D.policy client.now server.now suite.now decisions.now schedule.now w) }
     ensures memory { IfOk result (λ w. HadMemory w) }
     ensures understood { IfOk result (λ w. AreUnderstoodIn S.meaning D.policy w) }
     ensures ends { IfOk result (λ w. EndsWell (outcome (S.meaning suite.now) (D.policy decisions.now) client.now server.now) w) }
@@ -69,6 +71,8 @@ pub fn any_two<'a, S: AgreeingSuite, D: Decisions>(
     first: &[Delivery],
     second: &[Delivery],
 ) -> Result<(World<'a, S, D>, World<'a, S, D>), Memory>
+    // Each world comes of its schedule.
+    ensures ran { IfOk result (λ two. HasRun S.meaning D.policy client.now server.now suite.now decisions.now first.now two.0 × HasRun S.meaning D.policy client.now server.now suite.now decisions.now second.now two.1) }
     ensures one { IfOk result (λ two. PairIs two.0 two.1) }
 {
     let one = schedule_ends(alloc, client, server, suite, decisions, first)?;
@@ -86,6 +90,8 @@ pub fn settled<'a, S: AgreeingSuite, D: Decisions>(
     decisions: &'a D,
     schedule: &[Delivery],
 ) -> Result<World<'a, S, D>, Memory>
+    // The rounds come after all deliveries of the schedule.
+    ensures ran { IfOk result (λ w. HasSettled S.meaning D.policy client.now server.now suite.now decisions.now schedule.now (2 * length client.now.plan + 4) w) }
     ensures complete { IfOk result (λ w. Complete w) }
     ensures ends { IfOk result (λ w. EndsWellOnce (outcome (S.meaning suite.now) (D.policy decisions.now) client.now server.now) w) }
 {
@@ -104,6 +110,7 @@ pub fn foretold<'a, S: AgreeingSuite, D: Decisions>(
     decisions: &'a D,
     schedule: &[Delivery],
 ) -> Result<((End, End), World<'a, S, D>), Memory>
+    ensures ran { IfOk result (λ two. HasRun S.meaning D.policy client.now server.now suite.now decisions.now schedule.now two.1) }
     ensures client { IfOk result (λ two. Complete two.1 → two.1.client.end ≡ end_data two.0.0) }
     ensures server { IfOk result (λ two. Complete two.1 → two.1.server.end ≡ end_data two.0.1) }
 {

@@ -72,9 +72,9 @@ fn act_by(
     };
     let decisions = &scenario.decisions;
     match word {
-        "begin" => begin(alloc, row, scenario, (&LabSuite, decisions)),
-        "generous" => begin(alloc, row, scenario, (&LabSuite, &Generous)),
-        "deployed" => begin(alloc, row, scenario, (&DeployedSuite, decisions)),
+        "begin" => begin(alloc, row, scenario, (LabSuite, decisions)),
+        "generous" => begin(alloc, row, scenario, (LabSuite, &Generous)),
+        "deployed" => begin(alloc, row, scenario, (DeployedSuite, decisions)),
         "waiting" => wait(alloc, row, scenario),
         "world" => judge_world(alloc, scenario, rest),
         "predict" => judge_prediction(alloc, scenario, rest),
@@ -84,11 +84,11 @@ fn act_by(
 }
 
 /// Judges an endpoint of the scenario, over the suite and by these decisions.
-fn begin<S: Suite, D: Decisions>(
+fn begin<S: Suite + Drop, D: Decisions>(
     alloc: Global,
     row: Row<'_>,
     scenario: &Scenario,
-    by: (&S, &D),
+    by: (S, &D),
 ) -> Result<(), Stop> {
     let (_, role) = row.act.head();
     match role {

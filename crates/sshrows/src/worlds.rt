@@ -1,6 +1,6 @@
 //! Rows of worlds and of predictions.
 
-use sshcore::End;
+use sshcore::{Agreed, End, Fault};
 use sshlab::Scenario;
 use sshrows_acts::{
     Line, Stop, is_out_of_memory, number_of, refused, same_agreed, same_end, same_text, shows,
@@ -88,25 +88,25 @@ fn deliver(
         _ => return wrong(alloc, line, "side", "client or server", side),
     };
     let count = number_of(alloc, line, count)?;
-    let was_open = is_open(ends_from(world, to).1);
+    let stood = stood_as(ends_from(world, to).1);
     match world.deliver(to, count) {
         Ok(moved) => shows(alloc, line, "moved", wanted, &moved),
-        Err(_) => Err(refused_delivery(alloc, line, world, to, was_open)),
+        Err(_) => Err(refused_delivery(alloc, line, world, to, stood)),
     }
 }
 
-/// What stands after a refused delivery to this side, whose other side was open or not.
+/// What stands after a refused delivery to this side, whose other side stood so before.
 fn refused_delivery(
     alloc: Global,
     line: &Line<'_>,
     world: &mut LabWorld<'_>,
     to: Side,
-    was_open: bool,
+    stood: Stood,
 ) -> Stop {
     let (receiver, other) = ends_from(world, to);
     let is_right = is_out_of_memory(receiver)
         && !is_out_of_memory(other)
-        && is_open(other) == was_open
+        && stood_as(other) == stood
         && stays_failed(world, to);
     let stands = if is_right {
         "the receiver failed F15 for good, the other as it was"
@@ -132,9 +132,57 @@ fn ends_from<'a>(world: &'a LabWorld<'_>, side: Side) -> (&'a End, &'a End) {
     }
 }
 
-/// Whether the endpoint takes bytes.
-fn is_open(end: &End) -> bool {
-    matches!(end, End::Open)
+/// An end, kept without memory.
+#[derive(Clone, Copy, PartialEq, Eq)]
+enum Stood {
+    Open,
+    /// What was agreed, folded into a number.
+    Authenticated(usize),
+    Failed(Fault),
+    Closed(u32),
+    Disconnected(u32),
+}
+
+/// An end as it is kept.
+fn stood_as(end: &End) -> Stood {
+    match end {
+        End::Open => Stood::Open,
+        End::Authenticated(agreed) => Stood::Authenticated(folded_agreed(agreed)),
+        End::Failed(fault) => Stood::Failed(*fault),
+        End::Closed(reason) => Stood::Closed(*reason),
+        End::Disconnected(reason) => Stood::Disconnected(*reason),
+    }
+}
+
+/// All that was agreed, folded into a number.
+fn folded_agreed(agreed: &Agreed) -> usize {
+    let texts = [
+        agreed.user.as_bytes(),
+        agreed.service.as_bytes(),
+        agreed.kex.as_bytes(),
+        agreed.host_key.as_bytes(),
+        agreed.encryption_client_to_server.as_bytes(),
+        agreed.encryption_server_to_client.as_bytes(),
+        agreed.mac_client_to_server.as_bytes(),
+        agreed.mac_server_to_client.as_bytes(),
+        agreed.compression_client_to_server.as_bytes(),
+        agreed.compression_server_to_client.as_bytes(),
+        agreed.session.as_slice(),
+    ];
+    let mut number = agreed.strict as usize;
+    for text in texts {
+        number = folded(number, text);
+    }
+    number
+}
+
+/// Bytes and how many they are, folded into a number.
+fn folded(before: usize, bytes: &[u8]) -> usize {
+    let mut number = before;
+    for byte in bytes {
+        number = number.wrapping_mul(1_000_003).wrapping_add(*byte as usize);
+    }
+    number.wrapping_mul(1_000_003).wrapping_add(bytes.len())
 }
 
 /// What came of deliveries. Where one was refused memory, one side alone has to be failed by that, and stays so.

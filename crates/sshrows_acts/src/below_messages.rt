@@ -118,7 +118,7 @@ fn judge_written(
     }
     let mut out = Vec::from_slice(alloc, BEFORE)?;
     match write(message, &mut out) {
-        Ok(()) => stands_after(alloc, line, wanted, &out),
+        Ok(()) => stands_after(alloc, line, "written", wanted, &out),
         Err(_) => Err(refused(alloc, line, vector(out.as_slice() == BEFORE))),
     }
 }

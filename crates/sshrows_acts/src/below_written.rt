@@ -85,7 +85,7 @@ fn judge_packet<S: Suite>(
     match put_packet(alloc, names, suite, line, keys, words, &mut out) {
         Ok(wanted) => {
             let wanted = bytes_of(alloc, names, line, wanted)?;
-            stands_after(alloc, line, &wanted, &out)
+            stands_after(alloc, line, "written", &wanted, &out)
         }
         Err(stop) => Err(stopped(alloc, line, stop, vector(out.as_slice() == BEFORE))),
     }

@@ -8,8 +8,9 @@ use crate::stop::Stop;
 use crate::terms::bytes_of;
 use crate::texts::{nothing_after, same_bytes, same_text, shows, wrong};
 use crate::words::{Line, split_word};
-use sshcore::{ClientConfig, ClientParts, ConfigFault, ServerConfig, ServerParts};
+use sshcore::{ClientConfig, ClientParts, ConfigFault, ServerConfig, ServerParts, SuiteFault};
 use sshmsg::{KexInit, Message, write};
+use sshsuite::DeployedSuite;
 use sshsuites::LabSuite;
 use std::alloc::Global;
 
@@ -36,7 +37,7 @@ pub fn judge_config(
         }
         "server" => {
             let parts = server_by(alloc, names, parts)?;
-            judge_server(alloc, names, line, parts)
+            judge_server(alloc, names, line, parts, rest, piece_len)
         }
         _ => same_text(alloc, row, "act", "client or server", role),
     }
@@ -71,9 +72,11 @@ fn judge_server(
     names: &Names,
     line: &Line<'_>,
     parts: Box<ServerParts>,
+    lines: &[Line<'_>],
+    piece_len: usize,
 ) -> Result<(), Stop> {
     match server_config_of(alloc, parts)? {
-        Ok(config) => accepted_server(alloc, names, line, &config),
+        Ok(config) => accepted_server(alloc, names, line, &config, lines, piece_len),
         Err(fault) => refused(alloc, line, &fault),
     }
 }
@@ -107,7 +110,7 @@ fn is_verdict(text: &str) -> bool {
     let (word, _) = split_word(text);
     matches!(
         word,
-        "refused" | "attempts" | "offered" | "kexinit" | "generous"
+        "refused" | "attempts" | "offered" | "kexinit" | "judged" | "generous"
     )
 }
 
@@ -119,7 +122,20 @@ fn refused(alloc: Global, line: &Line<'_>, fault: &ConfigFault) -> Result<(), St
     }
 }
 
-/// A client's config was accepted: `attempts N`, `kexinit TERMS`, or `generous` and the lines of an endpoint.
+/// A config was judged over the suite of deployed algorithms: `judged fits`, or the refusal as it is printed.
+fn judged_deployed(
+    alloc: Global,
+    line: &Line<'_>,
+    wanted: &str,
+    found: Result<(), SuiteFault<'_>>,
+) -> Result<(), Stop> {
+    match found {
+        Ok(()) => same_text(alloc, line, "suite", wanted, "fits"),
+        Err(fault) => shows(alloc, line, "suite", wanted, &fault),
+    }
+}
+
+/// A client's config was accepted: `attempts N`, `kexinit TERMS`, `judged TEXT`, or `generous` and the lines of an endpoint.
 fn accepted_client(
     alloc: Global,
     names: &Names,
@@ -138,6 +154,7 @@ fn accepted_client(
             let found = payload_of(alloc, config.kexinit()?)?;
             judge_kexinit(alloc, names, line, rest, &found)
         }
+        "judged" => judged_deployed(alloc, line, rest, config.judge(&DeployedSuite)),
         "generous" => {
             let row = Row {
                 names,
@@ -145,18 +162,21 @@ fn accepted_client(
                 lines,
                 piece_len,
             };
-            judge_endpoint(alloc, row, config, (&LabSuite, &Generous))
+            judge_endpoint(alloc, row, config, (LabSuite, &Generous))
         }
         _ => wrong(alloc, line, "config", rest, "accepted"),
     }
 }
 
-/// A server's config was accepted: `offered N`, the number of its services, or `kexinit TERMS`.
+/// A server's config was accepted: `offered N`, the number of its services, `kexinit TERMS`, `judged TEXT`, or `generous` and
+/// the lines of an endpoint.
 fn accepted_server(
     alloc: Global,
     names: &Names,
     line: &Line<'_>,
     config: &ServerConfig,
+    lines: &[Line<'_>],
+    piece_len: usize,
 ) -> Result<(), Stop> {
     let (word, rest) = line.head();
     match word {
@@ -164,6 +184,16 @@ fn accepted_server(
         "kexinit" => {
             let found = payload_of(alloc, config.kexinit()?)?;
             judge_kexinit(alloc, names, line, rest, &found)
+        }
+        "judged" => judged_deployed(alloc, line, rest, config.judge(&DeployedSuite)),
+        "generous" => {
+            let row = Row {
+                names,
+                act: line,
+                lines,
+                piece_len,
+            };
+            judge_endpoint(alloc, row, config, (LabSuite, &Generous))
         }
         _ => wrong(alloc, line, "config", line.text, "accepted"),
     }

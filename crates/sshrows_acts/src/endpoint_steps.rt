@@ -8,10 +8,11 @@ use crate::refusals::{is_out_of_memory, refused_sending};
 use crate::stop::Stop;
 use crate::terms::{bytes_of, count_of, text_of};
 use crate::texts::{
-    flag_of, number_of, same_agreed, same_bytes, same_count, same_end, same_text, shows, wrong,
+    BEFORE, flag_of, number_of, put_word, same_agreed, same_count, same_end, same_text, shows,
+    stands_after, wrong, yes_or_no,
 };
 use crate::words::{Line, split_word};
-use sshcore::{Phase, Proof, Question};
+use sshcore::{ChosenNames, Phase, Proof, Question};
 use sshwire::Memory;
 use std::alloc::Global;
 use std::mem;
@@ -64,8 +65,8 @@ fn judge_sent<E: Judged>(
     talk: &mut Subject<'_, E>,
     wanted: &[u8],
 ) -> Result<(), Stop> {
-    same_bytes(alloc, line, "said", wanted, &talk.out)?;
-    talk.out.clear();
+    stands_after(alloc, line, "said", wanted, &talk.out)?;
+    talk.out.truncate(BEFORE.len());
     Ok(())
 }
 
@@ -83,6 +84,10 @@ fn look<E: Judged>(
             same_end(alloc, line, "end", rest, talk.endpoint.end())
         }
         "held" => shows(alloc, line, "held", rest, &talk.endpoint.stands().0),
+        "stands" => {
+            let found = text_of_course(alloc, &talk.endpoint)?;
+            same_text(alloc, line, "stands", rest, &found)
+        }
         "agreed" => same_agreed(alloc, line, rest, talk.endpoint.end()),
         "asked" => talk.received.questions.same(line, "asked", rest),
         "told" => talk.received.notices.same(line, "told", rest),
@@ -90,10 +95,7 @@ fn look<E: Judged>(
             let found = text_of_question(alloc, &talk.endpoint.question())?;
             same_text(alloc, line, "question", rest, &found)
         }
-        "verified" => match talk.endpoint.verified() {
-            Some(count) => shows(alloc, line, "verified", rest, &count),
-            None => wrong(alloc, line, "line", "a word of an endpoint", word),
-        },
+        "verified" => shows(alloc, line, "verified", rest, &talk.endpoint.verified()),
         _ => wrong(alloc, line, "line", "a word of an endpoint", word),
     }
 }
@@ -205,6 +207,45 @@ fn stood_after(before: usize, (held, phase, strict): (usize, Phase, Option<bool>
 /// A number, folded into those before.
 fn folded(before: usize, number: usize) -> usize {
     before.wrapping_mul(1_000_003).wrapping_add(number)
+}
+
+/// What it waits for, whether both sides are strict, and the names of the algorithms, or `none` where nothing is chosen.
+fn text_of_course<E: Judged>(alloc: Global, endpoint: &E) -> Result<String, Stop> {
+    let (_, phase, strict) = endpoint.stands();
+    let mut text = String::from_str(alloc, word_of_phase(phase))?;
+    let strict = match strict {
+        None => "none",
+        Some(strict) => yes_or_no(strict),
+    };
+    put_word(&mut text, strict)?;
+    if let Some(names) = endpoint.algorithms() {
+        put_chosen(&mut text, &names)?;
+    }
+    Ok(text)
+}
+
+/// The word for what is waited for.
+fn word_of_phase(phase: Phase) -> &'static str {
+    match phase {
+        Phase::KexInit => "kexinit",
+        Phase::Exchange => "exchange",
+        Phase::NewKeys => "newkeys",
+        Phase::Service => "service",
+        Phase::Auth => "auth",
+    }
+}
+
+/// Appends the names of the algorithms.
+fn put_chosen(text: &mut String, names: &ChosenNames<'_>) -> Result<(), Stop> {
+    put_word(text, names.kex)?;
+    put_word(text, names.host_key)?;
+    put_word(text, names.encryption_client_to_server)?;
+    put_word(text, names.encryption_server_to_client)?;
+    put_word(text, names.mac_client_to_server)?;
+    put_word(text, names.mac_server_to_client)?;
+    put_word(text, names.compression_client_to_server)?;
+    put_word(text, names.compression_server_to_client)?;
+    Ok(())
 }
 
 /// A question: `host_key` with the algorithm and the blob, or `user` with the number, the user, the service and the proof; or

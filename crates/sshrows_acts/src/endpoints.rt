@@ -9,7 +9,7 @@ use crate::linked::{judge_link, link_of, seed_of};
 use crate::names::Names;
 use crate::refusals::refused_sending;
 use crate::stop::Stop;
-use crate::texts::{same_bytes, same_count, wrong};
+use crate::texts::{BEFORE, same_count, stands_after, wrong};
 use crate::words::Line;
 use sshcore::{AskingEndpoint, ClientConfig, Decisions, Endpoint, ServerConfig, Session};
 use sshpacket::Suite;
@@ -26,7 +26,7 @@ pub trait Configures {
         suite: &'a S,
         asking: &'a Asking<'a, D>,
         out: &mut Vec<u8>,
-    ) -> Result<Deciding<'a, S, D>, Memory>;
+    ) -> Result<Endpoint<'a, S, Asking<'a, D>>, Memory>;
 
     /// An endpoint of this config that asks and waits.
     fn waiting<'a, S: Suite, D: Decisions>(
@@ -45,9 +45,8 @@ impl Configures for ClientConfig {
         suite: &'a S,
         asking: &'a Asking<'a, D>,
         out: &mut Vec<u8>,
-    ) -> Result<Deciding<'a, S, D>, Memory> {
-        let endpoint = Endpoint::client(alloc, self, suite, asking, out)?;
-        Ok(Deciding { endpoint })
+    ) -> Result<Endpoint<'a, S, Asking<'a, D>>, Memory> {
+        Endpoint::client(alloc, self, suite, asking, out)
     }
 
     fn waiting<'a, S: Suite, D: Decisions>(
@@ -68,9 +67,8 @@ impl Configures for ServerConfig {
         suite: &'a S,
         asking: &'a Asking<'a, D>,
         out: &mut Vec<u8>,
-    ) -> Result<Deciding<'a, S, D>, Memory> {
-        let endpoint = Endpoint::server(alloc, self, suite, asking, out)?;
-        Ok(Deciding { endpoint })
+    ) -> Result<Endpoint<'a, S, Asking<'a, D>>, Memory> {
+        Endpoint::server(alloc, self, suite, asking, out)
     }
 
     fn waiting<'a, S: Suite, D: Decisions>(
@@ -103,7 +101,7 @@ pub(crate) struct Subject<'a, E: Judged> {
     pub(crate) endpoint: E,
     /// What its decisions were asked and told since that was last judged.
     pub(crate) received: &'a Received,
-    /// What it has sent since that was last judged.
+    /// What it has sent since that was last judged, after bytes that stood there before.
     pub(crate) out: Vec<u8>,
     /// How many bytes it is given at once, at most.
     pub(crate) piece_len: usize,
@@ -114,21 +112,27 @@ pub(crate) struct Subject<'a, E: Judged> {
 }
 
 /// Judges an endpoint of this config over the suite: first one that asks these decisions by itself, then one that asks and
-/// waits, which they answer. What they are asked and told is kept. The second has to stand as the first after each piece.
-pub fn judge_endpoint<C: Configures, S: Suite, D: Decisions>(
+/// waits, which they answer. What they are asked and told is kept, and how many signatures the suite verifies is counted. The
+/// second has to stand as the first after each piece.
+pub fn judge_endpoint<C: Configures, S: Suite + Drop, D: Decisions>(
     alloc: Global,
     row: Row<'_>,
     config: &C,
-    (suite, decisions): (&S, &D),
+    (suite, decisions): (S, &D),
 ) -> Result<(), Stop> {
     let received = &Received::new(alloc, row.lines);
     let asking = &Asking {
         decisions,
         received,
     };
+    let suite = &CountedSuite {
+        suite,
+        verified: Cell::new(0),
+    };
     let stood = judge_deciding(alloc, row, config, suite, asking)?;
+    suite.verified.set(0);
     row.act.told.asks.set(true);
-    let stands = judge_asking(alloc, row, config, suite, asking, None)?;
+    let stands = judge_asking(alloc, row, config, suite, asking, false)?;
     same_count(alloc, row.act, "how it stood", stood, stands)?;
     row.act.told.asks.set(false);
     Ok(())
@@ -139,28 +143,35 @@ fn judge_deciding<'a, C: Configures, S: Suite, D: Decisions>(
     alloc: Global,
     row: Row<'_>,
     config: &'a C,
-    suite: &'a S,
+    suite: &'a CountedSuite<S>,
     asking: &'a Asking<'a, D>,
 ) -> Result<usize, Stop> {
-    let mut out = Vec::new(alloc);
-    let made = config.deciding(alloc, suite, asking, &mut out);
+    let mut out = Vec::from_slice(alloc, BEFORE)?;
+    let made = match config.deciding(alloc, suite, asking, &mut out) {
+        Ok(endpoint) => Ok(Deciding {
+            endpoint,
+            verified: &suite.verified,
+        }),
+        Err(_) => Err(Memory),
+    };
     judge(alloc, row, suite, made, out, asking.received)
 }
 
-/// The same of one that asks and waits, which these decisions answer, or where a count is given the lines of the row.
+/// The same of one that asks and waits, which these decisions answer, or the lines of the row.
 fn judge_asking<'a, C: Configures, S: Suite, D: Decisions>(
     alloc: Global,
     row: Row<'_>,
     config: &'a C,
-    suite: &'a S,
+    suite: &'a CountedSuite<S>,
     asking: &'a Asking<'a, D>,
-    by_row: Option<&'a Cell<u32>>,
+    by_row: bool,
 ) -> Result<usize, Stop> {
-    let mut out = Vec::new(alloc);
+    let mut out = Vec::from_slice(alloc, BEFORE)?;
     let made = match config.waiting(alloc, suite, asking, &mut out) {
         Ok(endpoint) => Ok(Waiting {
             endpoint,
             asking,
+            verified: &suite.verified,
             by_row,
         }),
         Err(_) => Err(Memory),
@@ -186,11 +197,11 @@ pub fn judge_waiting<C: Configures, S: Suite + Drop, D: Decisions>(
         suite,
         verified: Cell::new(0),
     };
-    judge_asking(alloc, row, config, suite, asking, Some(&suite.verified))?;
+    judge_asking(alloc, row, config, suite, asking, true)?;
     Ok(())
 }
 
-/// Judges an endpoint that was made and has sent these bytes, and answers how it stood.
+/// Judges an endpoint that was made and has sent these bytes after those that stood there before, and answers how it stood.
 fn judge<S: Suite, E: Judged + Drop>(
     alloc: Global,
     row: Row<'_>,
@@ -278,7 +289,7 @@ fn talk_on<E: Judged>(
 
 /// All that was sent and asked has to be judged, and the end; and all that was told, where a line judges some of it.
 fn finish<E: Judged>(alloc: Global, row: &Line<'_>, talk: &Subject<'_, E>) -> Result<(), Stop> {
-    same_bytes(alloc, row, "said and not judged", &[], &talk.out)?;
+    stands_after(alloc, row, "said and not judged", &[], &talk.out)?;
     talk.received
         .questions
         .same(row, "asked and not judged", "nothing")?;

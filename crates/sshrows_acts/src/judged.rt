@@ -2,7 +2,9 @@
 //! lines of its row answer.
 
 use crate::asked::Asking;
-use sshcore::{AskingEndpoint, Decisions, End, Endpoint, Fed, Phase, Question, Session};
+use sshcore::{
+    AskingEndpoint, ChosenNames, Decisions, End, Endpoint, Fed, Phase, Question, Session,
+};
 use sshpacket::Suite;
 use sshwire::Memory;
 use std::cell::Cell;
@@ -29,6 +31,9 @@ pub(crate) trait Judged {
     /// How many unfinished bytes it holds, what it waits for, and whether both sides are strict.
     fn stands(&self) -> (usize, Phase, Option<bool>);
 
+    /// The names of the algorithms that both KEXINITs choose.
+    fn algorithms(&self) -> Option<ChosenNames<'_>>;
+
     /// What it hands over.
     fn into_session(self) -> Option<Session>;
 
@@ -42,16 +47,16 @@ pub(crate) trait Judged {
         Ok(false)
     }
 
-    /// How many signatures were verified since the last call, where that is counted.
-    fn verified(&self) -> Option<u32> {
-        None
-    }
+    /// How many signatures were verified since the last call.
+    fn verified(&self) -> u32;
 }
 
 /// An endpoint that asks its decisions itself.
 #[derive(Drop)]
-pub struct Deciding<'a, S: Suite, D: Decisions> {
+pub(crate) struct Deciding<'a, S: Suite, D: Decisions> {
     pub(crate) endpoint: Endpoint<'a, S, Asking<'a, D>>,
+    /// How many signatures were verified.
+    pub(crate) verified: &'a Cell<u32>,
 }
 
 impl<S: Suite, D: Decisions> Judged for Deciding<'_, S, D> {
@@ -81,8 +86,16 @@ impl<S: Suite, D: Decisions> Judged for Deciding<'_, S, D> {
         (endpoint.buffered(), endpoint.phase(), endpoint.is_strict())
     }
 
+    fn algorithms(&self) -> Option<ChosenNames<'_>> {
+        self.endpoint.algorithms()
+    }
+
     fn into_session(self) -> Option<Session> {
         self.endpoint.into_session()
+    }
+
+    fn verified(&self) -> u32 {
+        self.verified.replace(0)
     }
 }
 
@@ -92,8 +105,10 @@ pub(crate) struct Waiting<'a, S: Suite, D: Decisions> {
     pub(crate) endpoint: AskingEndpoint<'a, S, Asking<'a, D>>,
     /// Who answers, and is told what the peer tells people.
     pub(crate) asking: &'a Asking<'a, D>,
-    /// Where the lines of its row answer instead: how many signatures were verified.
-    pub(crate) by_row: Option<&'a Cell<u32>>,
+    /// How many signatures were verified.
+    pub(crate) verified: &'a Cell<u32>,
+    /// Whether the lines of its row answer instead.
+    pub(crate) by_row: bool,
 }
 
 impl<S: Suite, D: Decisions> Waiting<'_, S, D> {
@@ -132,7 +147,7 @@ fn decided<D: Decisions>(decisions: &D, question: &Question<'_>) -> bool {
 
 impl<S: Suite, D: Decisions> Judged for Waiting<'_, S, D> {
     fn feed(&mut self, piece: &[u8], out: &mut Vec<u8>) -> Result<usize, Memory> {
-        if self.by_row.is_some() {
+        if self.by_row {
             return self.feed_once(piece, out);
         }
         let mut all = 0usize;
@@ -169,6 +184,10 @@ impl<S: Suite, D: Decisions> Judged for Waiting<'_, S, D> {
         (endpoint.buffered(), endpoint.phase(), endpoint.is_strict())
     }
 
+    fn algorithms(&self) -> Option<ChosenNames<'_>> {
+        self.endpoint.algorithms()
+    }
+
     fn into_session(self) -> Option<Session> {
         self.endpoint.into_session()
     }
@@ -178,17 +197,14 @@ impl<S: Suite, D: Decisions> Judged for Waiting<'_, S, D> {
     }
 
     fn answer(&mut self, decided: bool, out: &mut Vec<u8>) -> Result<bool, Memory> {
-        if self.by_row.is_none() {
+        if !self.by_row {
             return Ok(false);
         }
         self.endpoint.answer(decided, out)?;
         Ok(true)
     }
 
-    fn verified(&self) -> Option<u32> {
-        match self.by_row {
-            Some(count) => Some(count.replace(0)),
-            None => None,
-        }
+    fn verified(&self) -> u32 {
+        self.verified.replace(0)
     }
 }

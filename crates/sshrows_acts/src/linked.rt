@@ -108,11 +108,11 @@ fn judge_sealed<S: Suite>(
     match link.seal(suite, &payload, &mut out) {
         Ok(()) => {
             let wanted = bytes_of(alloc, names, line, wanted)?;
-            stands_after(alloc, line, &wanted, &out)
+            stands_after(alloc, line, "written", &wanted, &out)
         }
         Err(LinkFault::Memory) => Err(refused(alloc, line, vector(out.as_slice() == BEFORE))),
         Err(fault) => {
-            stands_after(alloc, line, &[], &out)?;
+            stands_after(alloc, line, "written", &[], &out)?;
             same_text(alloc, line, "sealed", wanted, name_of(fault))
         }
     }

@@ -3,7 +3,7 @@
 use crate::names::Names;
 use crate::stop::Stop;
 use crate::terms::{bytes_of, text_of};
-use crate::texts::wrong;
+use crate::texts::{number_of, wrong};
 use crate::words::{Line, split_word};
 use sshcore::{Attempt, ClientParts, Credential, HostKey, ServerParts, SideParts};
 use sshsuites::{lab_client_parts, lab_server_parts};
@@ -91,6 +91,7 @@ fn set_server(
         "services" => set_list(alloc, names, line, &mut parts.services, rest),
         "methods" => set_list(alloc, names, line, &mut parts.methods, rest),
         "required" => set_list(alloc, names, line, &mut parts.required, rest),
+        "signatures" => set_list(alloc, names, line, &mut parts.signature_algorithms, rest),
         _ => set_side(alloc, names, line, &mut parts.side),
     }
 }
@@ -110,6 +111,10 @@ fn set_side(
         }
         "comments" => {
             side.comments = Some(text_of(alloc, names, line, rest)?);
+            Ok(())
+        }
+        "ignored" => {
+            side.ignored_limit = Some(number_of(alloc, line, rest)?);
             Ok(())
         }
         _ => match list_in(side, word) {

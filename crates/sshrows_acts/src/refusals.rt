@@ -1,21 +1,34 @@
 //! What stands after a judged call that was refused memory. It is told without memory.
 
 use crate::stop::{Refusal, Stop};
+use crate::texts::BEFORE;
 use crate::words::Line;
 use sshcore::{End, Fault};
 use std::alloc::Global;
 
 /// A judged call was refused memory, and this stands after it.
 pub fn refused(alloc: Global, line: &Line<'_>, stands: &'static str) -> Stop {
-    refused_sending(line, stands, Vec::new(alloc))
+    line.told.keep_refusal(Refusal {
+        number: line.number,
+        stands,
+        sent: Vec::new(alloc),
+        before: 0,
+    });
+    Stop::Refused
 }
 
-/// The same of an endpoint that has sent this since it was judged last.
+/// The same of an endpoint that has sent this since it was judged last, after bytes that have to stand there still.
 pub(crate) fn refused_sending(line: &Line<'_>, stands: &'static str, sent: Vec<u8>) -> Stop {
+    let stands = if sent.starts_with(BEFORE) {
+        stands
+    } else {
+        "the bytes before are gone"
+    };
     line.told.keep_refusal(Refusal {
         number: line.number,
         stands,
         sent,
+        before: BEFORE.len(),
     });
     Stop::Refused
 }

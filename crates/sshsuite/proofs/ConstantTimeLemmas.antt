@@ -41,7 +41,7 @@ pub differences_more : (a b : List ℕ) (n : ℕ) → differences a b (n + 1) �
 unfolding differences
 differences_more a b n = rw (add-one n) refl
 
-xor_none : (x y : ℕ) → bit_xor x y ≡ 0 → x ≡ y
+pub xor_none : (x y : ℕ) → bit_xor x y ≡ 0 → x ≡ y
 xor_none x y e = sym (xor_zero_r x) ∙ (ap (bit_xor x) (sym e) ∙ xor_own x y)
 
 same_at : (a b : List ℕ) (n : ℕ) → differences a b n ≡ 0 → (k : ℕ) → k < n → slice_index a k ≡ slice_index b k
@@ -63,7 +63,7 @@ unfolding differences
 no_differences a zero = refl
 no_differences a (suc n) = rw (no_differences a n) (or_zero_l (bit_xor (slice_index a n) (slice_index a n)) ∙ xor_self (slice_index a n))
 
-by_both : (x y : Bool) → (x ≡ true → y ≡ true) → (y ≡ true → x ≡ true) → x ≡ y
+pub by_both : (x y : Bool) → (x ≡ true → y ≡ true) → (y ≡ true → x ≡ true) → x ≡ y
 by_both true y f g = sym (f refl)
 by_both false true f g = g refl
 by_both false false f g = refl

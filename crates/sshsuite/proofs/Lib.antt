@@ -1,4 +1,5 @@
 pub mod ConstantTimeLemmas
+pub mod SecretLemmas
 pub mod WordLemmas
 pub mod LimbLemmas
 pub mod FieldLemmas
@@ -15,6 +16,12 @@ pub mod AesLemmas
 pub mod AesStateLemmas
 pub mod AesKeyLemmas
 pub mod AesSamples
+pub mod LinearLemmas
+pub mod CarrylessLemmas
+pub mod HolesLemmas
+pub mod PlacesLemmas
+pub mod BlockProductLemmas
+pub mod ReducedLemmas
 pub mod LongNumberLemmas
 pub mod MontgomeryLemmas
 pub mod PowerLemmas

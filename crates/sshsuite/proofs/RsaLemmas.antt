@@ -67,16 +67,16 @@ unfolding is_exponent
 exponent_some digits m e =
     let n : ℕ = number_high digits in
     let is = given (is_exponent digits) m n e in
-    let low = leb-true 3 n (first (leb 3 n) (eqb (n % 2) 1) (second (leb (length digits) 4) (leb 3 n && eqb (n % 2) 1) is.0)) in omega (arith, low, is.1)
+    let low = leb-true 3 n (first (leb 3 n) (eqb (n % 2) 1) (second (leb (length digits) 3) (leb 3 n && eqb (n % 2) 1) is.0)) in omega (arith, low, is.1)
 
 exponent_small : (digits : List ℕ) (m : ℕ) → ◌≡◌ {A = Option ℕ} (Some m) (cond (is_exponent digits) (Some (number_high digits)) None) → ((k : ℕ) → slice_index digits k < 256) → m < 2 ^ 32
 unfolding is_exponent
 exponent_small digits m e h =
     let n : ℕ = number_high digits in
     let is = given (is_exponent digits) m n e in
-    let short = leb-true (length digits) 4 (first (leb (length digits) 4) (leb 3 n && eqb (n % 2) 1) is.0) in
+    let short = leb-true (length digits) 3 (first (leb (length digits) 3) (leb 3 n && eqb (n % 2) 1) is.0) in
     let low = high_below digits h in
-    let more : 256 ^ length digits ≤ 256 ^ 4 = more_bytes (length digits) 4 short in omega (arith, low, more, is.1)
+    let more : 256 ^ length digits ≤ 256 ^ 3 = more_bytes (length digits) 3 short in omega (arith, low, more, is.1)
 
 digits_bytes : (body : List ℕ) → ((k : ℕ) → slice_index body k < 256) → (k : ℕ) → slice_index (digits body) k < 256
 unfolding digits

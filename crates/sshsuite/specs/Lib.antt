@@ -12,6 +12,7 @@ pub mod Sealing
 pub mod SealingLaws
 pub mod Aes
 pub mod AesBytes
+pub mod Carryless
 pub mod Ghash
 pub mod Gcm
 pub mod GcmLaws
@@ -21,6 +22,7 @@ pub mod Group14
 pub mod Group14Laws
 pub mod Rsa
 pub mod Deployed
+pub mod DeployedInventory
 pub mod DeployedLaws
 pub mod FieldValues
 pub mod FieldBytes

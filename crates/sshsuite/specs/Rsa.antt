@@ -65,9 +65,9 @@ unfoldable pub digits : List ℕ → List ℕ
 digits [] = []
 digits (b ∷ bytes) = if b == 0 then bytes else b ∷ bytes
 
--- the exponent is odd, from 3 to below 2^32
+-- the exponent is odd, from 3 to below 2^24
 unfoldable pub is_exponent : List ℕ → Bool
-is_exponent e = nat_le (length e) 4 && (nat_le 3 (number_high e) && (number_high e % 2 == 1))
+is_exponent e = nat_le (length e) 3 && (nat_le 3 (number_high e) && (number_high e % 2 == 1))
 
 -- the modulus is odd, of 2048 to 8192 bits
 unfoldable pub is_modulus : List ℕ → Bool

@@ -30,9 +30,9 @@ const ED25519: &str = "ssh-ed25519";
 /// A private key is the 32 bytes of RFC 8032 section 5.1.5; other bytes are hashed to one as these are. By RSA it
 /// verifies and doesn't sign: whatever the name, `blob` and `sign` answer as ssh-ed25519, which nobody takes for RSA. So a
 /// client lists the names of RSA among its host key algorithms, and a server has no host key of them, nor a client a
-/// credential. Taken are moduli of 2048 to 8192 bits and odd exponents from 3 to below 2^32.
+/// credential. Taken are moduli of 2048 to 8192 bits and odd exponents from 3 to below 2^24.
 ///
-/// Of other names:
+/// [`Inventory`](sshpacket::Inventory) tells which names these are, so that a config that lists another one is refused. Of other names:
 ///
 /// - A key exchange method that it doesn't know needs a host key that encrypts, and a host key algorithm that
 ///   it doesn't know can neither sign nor encrypt: so no choice comes to one. A share of such a method is

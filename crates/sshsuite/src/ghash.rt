@@ -1,36 +1,23 @@
 //! GHASH (NIST SP 800-38D section 6.4): a block is a number of 128 bits, whose bit 0 is the highest.
 
 ghost use Rattle.std.specs.Prelude.{◌≡◌, ◌<◌, ◌*◌, ◌^◌, length};
-ghost use Rattle.sshsuite.specs.Ghash.{ghash, hashed, padded_block, shifted, times};
+ghost use Rattle.sshsuite.specs.Ghash.{ghash, hashed, padded_block, times};
 
 use crate::aes::number_at;
 use crate::bits::filled_up;
-use crate::constant_time::select_wide;
+use crate::carryless::block_product;
 
-/// R: what comes back of a bit that is shifted out (section 6.3).
-const REDUCTION: u128 = 0xe1 << 120;
-
-/// A block times x.
-#[tactic(auto, unfolding(crate::specs::Ghash::shifted))]
-#[inline(always)]
-fn shifted(v: u128) -> u128
-    ensures { result ≡ shifted v }
-{
-    select_wide(v >> 1, (v >> 1) ^ REDUCTION, v % 2)
-}
-
-/// The product of two blocks (section 6.3, algorithm 1).
-#[tactic(auto, using(crate::specs::Ghash::shifted_none, crate::specs::Ghash::shifted_more, crate::specs::Ghash::times_none, crate::specs::Ghash::times_more), unfolding(crate::specs::Ghash::times))]
+/// The product of two blocks (section 6.3): that of polynomials, whose lowest power is a block's highest bit, modulo
+/// x^128 + x^7 + x^2 + x + 1. No branch, index or choice depends on a block.
+#[tactic(auto, using(crate::proofs::ReducedLemmas::halves_are))]
 fn times(x: u128, y: u128) -> u128
     ensures { result ≡ times x y }
 {
-    let mut sum = 0;
-    let mut power = y;
-    for i in 0..128u32 {
-        sum = select_wide(sum, sum ^ power, (x >> (127 - i)) % 2);
-        power = shifted(power);
-    }
-    sum
+    let product = block_product(x, y);
+    let above = (product.high << 1) ^ (product.low >> 127);
+    let below = product.low << 1;
+    let folded = below ^ (below << 127) ^ (below << 126) ^ (below << 121);
+    above ^ folded ^ (folded >> 1) ^ (folded >> 2) ^ (folded >> 7)
 }
 
 /// The block with this number, with zeros after the last bytes.

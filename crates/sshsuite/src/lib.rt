@@ -4,9 +4,11 @@
 
 mod aes;
 mod bits;
+mod carryless;
 mod chacha20;
 mod constant_time;
 mod curve25519;
+mod deployed_inventory;
 mod deployed_suite;
 mod ed25519;
 mod edwards25519;
@@ -27,6 +29,7 @@ mod rsa_fields;
 mod scalar;
 mod sealing;
 
+pub use constant_time::is_same_secret;
 pub use deployed_suite::DeployedSuite;
 pub use key_pair::KeyPair;
 pub use keyed_suite::KeyedSuite;

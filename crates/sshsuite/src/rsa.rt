@@ -16,6 +16,9 @@ use std::alloc::Global;
 /// How many bytes the longest modulus has: 8192 bits.
 const LONGEST: usize = 1024;
 
+/// How many bytes the longest exponent has.
+const EXPONENT_LEN: usize = 3;
+
 /// 1024 bytes, of which zeros stand before these for what they are short of.
 fn filled_before(bytes: &[u8]) -> [u8; LONGEST]
     requires { length bytes.now ≤ 1024 }
@@ -51,12 +54,12 @@ fn small_number(bytes: &[u8]) -> u64
     number_in(bytes)[0]
 }
 
-/// The exponent, where it is odd and from 3 to below 2^32.
+/// The exponent, where it is odd and from 3 to below 2^24: a peer chooses it, and each of its bits is work.
 #[tactic(auto, unfolding(crate::specs::Rsa::is_exponent))]
 fn exponent_in(digits: &[u8]) -> Option<u64>
     ensures { result ≡ (if is_exponent digits.now then Some (number_high digits.now) else None) }
 {
-    if digits.len() > 4 {
+    if digits.len() > EXPONENT_LEN {
         return None;
     }
     let exponent = small_number(digits);

@@ -17,6 +17,7 @@ lab_side cookie random seed = record {
   cookie = replicate 16 cookie;
   random = replicate 32 random;
   seed = replicate 32 seed;
+  ignored_limit = None;
 }
 
 -- a client that attempts nothing
@@ -33,6 +34,7 @@ lab_server = record {
   services = codes "ssh-connection" ∷ [];
   methods = codes "password" ∷ codes "publickey" ∷ [];
   required = [];
+  signature_algorithms = [];
   tries = 6;
   banner = None;
   notices = [];

@@ -1,6 +1,7 @@
 pub mod Kem
 pub mod KemLaws
 pub mod Lab
+pub mod LabInventory
 pub mod Masks
 pub mod LabLaws
 pub mod LabDecisionsData

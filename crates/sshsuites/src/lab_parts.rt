@@ -46,6 +46,7 @@ pub fn lab_server_parts(alloc: Global) -> Result<ServerParts, Memory>
         services,
         methods,
         required: Vec::new(alloc),
+        signature_algorithms: Vec::new(alloc),
         tries: 6,
         banner: None,
         notice_lines: Vec::new(alloc),
@@ -77,6 +78,7 @@ fn lab_side(alloc: Global, cookie: u8, random: u8, seed: u8) -> Result<SideParts
         exchange_random: drawn.0,
         padding_seed: drawn.1,
         cookie: drawn.2,
+        ignored_limit: None,
     })
 }
 

@@ -4,6 +4,7 @@
 
 mod kem_suite;
 mod lab_decisions;
+mod lab_inventory;
 mod lab_parts;
 mod lab_suite;
 mod owned;

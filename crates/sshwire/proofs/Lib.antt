@@ -1,9 +1,11 @@
 pub mod VersionText
 pub mod VersionParts
 pub mod NameLengths
+pub mod DeployedText
 pub mod Readings
 pub mod Refusals
 pub mod Tellings
+pub mod Steps
 pub mod NameLemmas
 pub mod NamesLeft
 pub mod EndLemmas

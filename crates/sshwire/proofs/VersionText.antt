@@ -44,12 +44,12 @@ all_tested test P each (b ∷ bs) h = and_from _ _ (each b h.0) (all_tested test
 software_not_space : (b : ℕ) → IsSoftwareByte b → is_space b ≡ false
 software_not_space b h = let above : 33 ≤ b = h.above_space in ne_eqb b 32 (λ e. omega arith)
 
--- the softwareversion ends at the first space
-space_after : (software : List ℕ) (comments : Option (List ℕ)) → AllByRecursion IsSoftwareByte software
+-- the softwareversion, of bytes that are no spaces, ends at the first space
+space_after : (P : ℕ → Type 0) → ((b : ℕ) → P b → is_space b ≡ false) → (software : List ℕ) (comments : Option (List ℕ)) → AllByRecursion P software
     → position_or_len is_space (software ++ comment_part comments) ≡ length software
-space_after [] None h = refl
-space_after [] (Some comments) h = refl
-space_after (b ∷ bs) comments h = rw (software_not_space b h.0) (omega (arith, space_after bs comments h.1))
+space_after P other [] None h = refl
+space_after P other [] (Some comments) h = refl
+space_after P other (b ∷ bs) comments h = rw (other b h.0) (omega (arith, space_after P other bs comments h.1))
 
 -- the comments, or nothing
 comments_or_nil : Option (List ℕ) → List ℕ
@@ -103,48 +103,60 @@ round_space (b ∷ bs) = elim (cases_Bool (is_space b)) [
       record { comments = r.comments; bytes_are = further b bs r.comments f r.bytes_are; after = further_after b bs r.comments f r.after }
 ]
 
--- the bytes after SSH-2.0-
-record IsTail (bytes : List ℕ) : Type 0 where
-  software : List ℕ
-  comments : Option (List ℕ)
-  bytes_are : bytes ≡ software ++ comment_part comments
-  not_empty : 0 < length software
-  software_bytes : AllByRecursion IsSoftwareByte software
-  comment_bytes : IfSome comments (AllByRecursion IsCommentByte)
+-- the bytes after the protocol, whose softwareversion has such bytes
+pub record IsTail (P : ℕ → Type 0) (bytes : List ℕ) : Type 0 where
+  pub software : List ℕ
+  pub comments : Option (List ℕ)
+  pub bytes_are : bytes ≡ software ++ comment_part comments
+  pub not_empty : 0 < length software
+  pub software_bytes : AllByRecursion P software
+  pub comment_bytes : IfSome comments (AllByRecursion IsCommentByte)
 
 comments_from_test : (bytes : List ℕ) (comments : Option (List ℕ)) → IfSome comments (λ c. c ≡ after_first is_space bytes)
     → list_all is_comment_byte (after_first is_space bytes) ≡ true → IfSome comments (AllByRecursion IsCommentByte)
 comments_from_test bytes None after t = tt
 comments_from_test bytes (Some c) after t = all_from_test is_comment_byte IsCommentByte comment_byte c (rw after t)
 
-tail_from_test : (bytes : List ℕ) → is_software_and_comments bytes ≡ true → IsTail bytes
+-- the test of such bytes
+abbrev pub is_tail : (ℕ → Bool) → List ℕ → Bool
+is_tail test bytes =
+    ltb 0 (length (before_first is_space bytes)) && (list_all test (before_first is_space bytes) && list_all is_comment_byte (after_first is_space bytes))
+
+module _ (P : ℕ → Type 0) (test : ℕ → Bool) where
+  pub tail_from : ((b : ℕ) → test b ≡ true → P b) → (bytes : List ℕ) → is_tail test bytes ≡ true → IsTail P bytes
+  tail_from each bytes t =
+      let software = before_first is_space bytes in
+      let p = and_parts (ltb 0 (length software)) (list_all test software && list_all is_comment_byte (after_first is_space bytes)) t in
+      let q = and_parts (list_all test software) (list_all is_comment_byte (after_first is_space bytes)) p.1 in
+      let r = round_space bytes in
+      record {
+        software = software;
+        comments = r.comments;
+        bytes_are = r.bytes_are;
+        not_empty = ltb-true 0 (length software) p.0;
+        software_bytes = all_from_test test P each software q.0;
+        comment_bytes = comments_from_test bytes r.comments r.after q.1;
+      }
+
+  pub tail_test : ((b : ℕ) → P b → test b ≡ true) → ((b : ℕ) → P b → is_space b ≡ false) → (software : List ℕ) (comments : Option (List ℕ))
+      → 0 < length software → AllByRecursion P software → IfSome comments (AllByRecursion IsCommentByte) → is_tail test (software ++ comment_part comments) ≡ true
+  tail_test each other software comments some s c =
+      let end : position_or_len is_space (software ++ comment_part comments) ≡ length software = space_after P other software comments s in
+      let front : before_first is_space (software ++ comment_part comments) ≡ software = rw end (take_at software (comment_part comments) (length software) refl) in
+      let after : after_first is_space (software ++ comment_part comments) ≡ comments_or_nil comments = rw end (after_space software comments) in
+      let t₀ : ltb 0 (length (before_first is_space (software ++ comment_part comments))) ≡ true = rw front (lt-ltb 0 (length software) some) in
+      let t₁ : list_all test (before_first is_space (software ++ comment_part comments)) ≡ true = rw front (all_tested test P each software s) in
+      let t₂ : list_all is_comment_byte (after_first is_space (software ++ comment_part comments)) ≡ true = rw after (comments_tested comments c) in
+      and_from _ _ t₀ (and_from _ _ t₁ t₂)
+
+tail_from_test : (bytes : List ℕ) → is_software_and_comments bytes ≡ true → IsTail IsSoftwareByte bytes
 unfolding is_software_and_comments
-tail_from_test bytes t =
-    let software = before_first is_space bytes in
-    let p = and_parts (ltb 0 (length software)) (list_all is_software_byte software && list_all is_comment_byte (after_first is_space bytes)) t in
-    let q = and_parts (list_all is_software_byte software) (list_all is_comment_byte (after_first is_space bytes)) p.1 in
-    let r = round_space bytes in
-    record {
-      software = software;
-      comments = r.comments;
-      bytes_are = r.bytes_are;
-      not_empty = ltb-true 0 (length software) p.0;
-      software_bytes = all_from_test is_software_byte IsSoftwareByte software_byte software q.0;
-      comment_bytes = comments_from_test bytes r.comments r.after q.1;
-    }
+tail_from_test bytes t = tail_from IsSoftwareByte is_software_byte software_byte bytes t
 
 tail_tested : (software : List ℕ) (comments : Option (List ℕ)) → 0 < length software → AllByRecursion IsSoftwareByte software
     → IfSome comments (AllByRecursion IsCommentByte) → is_software_and_comments (software ++ comment_part comments) ≡ true
 unfolding is_software_and_comments
-tail_tested software comments some s c =
-    let end : position_or_len is_space (software ++ comment_part comments) ≡ length software = space_after software comments s in
-    let front : before_first is_space (software ++ comment_part comments) ≡ software = rw end (take_at software (comment_part comments) (length software) refl) in
-    let after : after_first is_space (software ++ comment_part comments) ≡ comments_or_nil comments = rw end (after_space software comments) in
-    let t₀ : ltb 0 (length (before_first is_space (software ++ comment_part comments))) ≡ true = rw front (lt-ltb 0 (length software) some) in
-    let t₁ : list_all is_software_byte (before_first is_space (software ++ comment_part comments)) ≡ true
-    = rw front (all_tested is_software_byte IsSoftwareByte software_byte_test software s) in
-    let t₂ : list_all is_comment_byte (after_first is_space (software ++ comment_part comments)) ≡ true = rw after (comments_tested comments c) in
-    and_from _ _ t₀ (and_from _ _ t₁ t₂)
+tail_tested software comments some s c = tail_test IsSoftwareByte is_software_byte software_byte_test software_not_space software comments some s c
 
 pub version_text_from_test : (text : List ℕ) → is_version_text text ≡ true → IsVersionText text
 unfolding is_version_text
@@ -216,7 +228,7 @@ ends_cr line =
       ]
     ]
 
-text_before_lf : (line : List ℕ) → take (length line - 1) line ≡ text_in (with_lf line)
+pub text_before_lf : (line : List ℕ) → take (length line - 1) line ≡ text_in (with_lf line)
 text_before_lf line =
     let long : length (with_lf line) ≡ length line + 1 = length-append line (10 ∷ []) in
     let cut : length (with_lf line) - 2 ≡ length line - 1 = omega arith in

@@ -1,33 +1,25 @@
--- What a call of `LineReader::feed` answers.
+-- What a call of `LineReader::feed` answers, or of `PeerLineReader::feed` by its form.
 
-use Rattle.std.specs.Prelude.{◌≡◌, ◌≢◌, ℕ, ◌+◌, ◌≤◌, ◌⊎◌, List, [], ◌++◌, length, take, drop, Result, Ok, Err}
+use Rattle.std.specs.Prelude.{◌≡◌, ◌≢◌, ℕ, ◌+◌, ◌≤◌, ◌⊎◌, List, ◌++◌, length, take, drop, Option, None, Some, Result, Ok, Err, Vec}
 use Rattle.sshwire.specs.declared.fault.WireFault.{WireFault}
 use Rattle.sshwire.specs.declared.fault.WireFault.TheVariants.{Memory}
 use Rattle.sshwire.specs.declared.line_reader.LineStep.{LineStep}
 use Rattle.sshwire.specs.declared.line_reader.LineStep.TheVariants as step
-use Rattle.sshwire.specs.declared.line_reader.Ending.{Ending}
-use Rattle.sshwire.specs.declared.line_reader.Ending.TheVariants as ending
 use Rattle.sshwire.specs.declared.line_reader.LineReader.TheInside.{Inside}
-use Rattle.sshwire.specs.Lines.{IsUnfinished, Preamble, LineRefused, LineOpen}
-use Rattle.sshwire.specs.Reading.{Reading, More, Got, Stops}
+use Rattle.sshwire.specs.declared.peer_line_reader.PeerStep.{PeerStep}
+use Rattle.sshwire.specs.declared.peer_line_reader.PeerStep.TheVariants as peer
+use Rattle.sshwire.specs.declared.line_form.LineForm.{LineForm}
+use Rattle.sshwire.specs.declared.line_form.LineForm.TheVariants.{Strict}
+use Rattle.sshwire.specs.Lines.{LineOpen, LineRefusedBy, PreambleBy}
+use Rattle.sshwire.specs.Reading.{Reading, More, Got, Stops, TakesLine}
 use Rattle.sshwire.specs.LineReaderData.{LineReaderData, Progress, Waits, Finished, Refused}
 
--- what a caller sees of the fields
-abbrev pub progress_of : Ending → ℕ → List ℕ → Progress
-progress_of ending.Open left line = Waits left line
-progress_of ending.Done left line = Finished
-progress_of (ending.Refused code) left line = Refused code
-
+-- what a caller sees of the one field: how the reader stands, without its form
 abbrev pub line_reader_data : Inside → LineReaderData
-line_reader_data r = record { progress = progress_of r.ending r.left r.line.items; taken = r.taken }
-
--- a reader that is open holds an unfinished line, and else nothing
-abbrev pub HoldsLine : Ending → List ℕ → Type 0
-HoldsLine ending.Open line = IsUnfinished line
-HoldsLine _ line = line ≡ []
+line_reader_data r = r.lines.state
 
 abbrev pub IsInside : Inside → Type 0
-IsInside r = HoldsLine r.ending r.line.items
+IsInside r = r.lines.form ≡ Strict
 
 -- what an open reader answers whose unfinished line and piece have this reading
 abbrev pub FeedAnswer : Reading → List ℕ → Result LineStep WireFault → LineReaderData → Type 0
@@ -36,6 +28,28 @@ FeedAnswer r piece (Ok step.More) new =
 FeedAnswer r piece (Ok (step.Done version used)) new =
     (r ≡ Got version (drop used piece)) × (new.progress ≡ Finished) × (new.taken ≡ used)
 FeedAnswer r piece (Err code) new = Stops code r (drop new.taken piece) × (new.progress ≡ Refused code)
+
+-- what it answers by a form, with the bytes before the LF of a version line
+abbrev pub TakeAnswer : {Z : Type 0} → LineForm → Reading → List ℕ → Result (Option (Vec ℕ Z)) WireFault → LineReaderData → Type 0
+TakeAnswer form r piece (Ok None) new =
+    (left : ℕ) × (line : List ℕ) × (r ≡ More left line) × (new.progress ≡ Waits left line) × (new.taken ≡ length piece)
+TakeAnswer form r piece (Ok (Some line)) new = TakesLine form r line.items (drop new.taken piece) × (new.progress ≡ Finished)
+TakeAnswer form r piece (Err code) new = Stops code r (drop new.taken piece) × (new.progress ≡ Refused code)
+
+-- how that leaves the reader
+abbrev pub TakeLeaves : {Z : Type 0} → Result (Option (Vec ℕ Z)) WireFault → Progress → Type 0
+TakeLeaves (Ok None) progress = progress ≢ Finished
+TakeLeaves (Ok (Some line)) progress = progress ≡ Finished
+TakeLeaves (Err code) progress = progress ≡ Refused code
+
+-- an answer of `PeerLineReader::feed` in the words of `LineReader::feed`: more, or a text and how many bytes were used
+abbrev pub step_of : PeerStep → LineStep
+step_of peer.More = step.More
+step_of (peer.Done version used) = step.Done version used
+
+abbrev pub answer_of : Result PeerStep WireFault → Result LineStep WireFault
+answer_of (Ok s) = Ok (step_of s)
+answer_of (Err code) = Err code
 
 -- the refusal is given again, and nothing is used
 pub record IsAgain (code : WireFault) (result : Result LineStep WireFault) (new : LineReaderData) : Type 0 where
@@ -50,27 +64,39 @@ StandsOpen k received Finished = ⊥
 StandsOpen k received (Refused code) = ⊥
 
 -- A refusal tells its place, the last byte used, unless memory ran out.
+abbrev pub TellsRefusalBy : LineForm → ℕ → List ℕ → List ℕ → WireFault → LineReaderData → Type 0
+TellsRefusalBy form k received piece code new =
+    code ≢ Memory → (place : ℕ) × (place + 1 ≡ length received + new.taken) × LineRefusedBy form k (received ++ piece) place code
+
 abbrev pub TellsRefusal : ℕ → List ℕ → List ℕ → WireFault → LineReaderData → Type 0
-TellsRefusal k received piece code new =
-    code ≢ Memory → (place : ℕ) × (place + 1 ≡ length received + new.taken) × LineRefused k (received ++ piece) place code
+TellsRefusal k received piece code new = TellsRefusalBy Strict k received piece code new
 
 -- no place of the bytes is refused
+abbrev pub NoneRefusedBy : LineForm → ℕ → List ℕ → Type 0
+NoneRefusedBy form k bytes = (place : ℕ) (code : WireFault) → LineRefusedBy form k bytes place code → ⊥
+
 abbrev pub NoneRefused : ℕ → List ℕ → Type 0
-NoneRefused k bytes = (place : ℕ) (code : WireFault) → LineRefused k bytes place code → ⊥
+NoneRefused k bytes = NoneRefusedBy Strict k bytes
 
 -- what the answer says of the bytes received so far and the piece
+abbrev pub PreambleAnswerBy : LineForm → ℕ → List ℕ → List ℕ → Result LineStep WireFault → LineReaderData → Type 0
+PreambleAnswerBy form k received piece (Ok step.More) new = StandsOpen k (received ++ piece) new.progress × (new.taken ≡ length piece)
+PreambleAnswerBy form k received piece (Ok (step.Done version used)) new =
+    (used ≤ length piece) × PreambleBy form k version (received ++ take used piece) × (new.progress ≡ Finished) × (new.taken ≡ used)
+PreambleAnswerBy form k received piece (Err code) new = TellsRefusalBy form k received piece code new × (new.progress ≡ Refused code)
+
 abbrev pub PreambleAnswer : ℕ → List ℕ → List ℕ → Result LineStep WireFault → LineReaderData → Type 0
-PreambleAnswer k received piece (Ok step.More) new = StandsOpen k (received ++ piece) new.progress × (new.taken ≡ length piece)
-PreambleAnswer k received piece (Ok (step.Done version used)) new =
-    (used ≤ length piece) × Preamble k version (received ++ take used piece) × (new.progress ≡ Finished) × (new.taken ≡ used)
-PreambleAnswer k received piece (Err code) new = TellsRefusal k received piece code new × (new.progress ≡ Refused code)
+PreambleAnswer k received piece result new = PreambleAnswerBy Strict k received piece result new
 
 -- No other answer comes than the one that the bytes received so far and the piece have, unless memory runs out.
-pub record OnlyPreambleAnswer (k : ℕ) (received piece : List ℕ) (result : Result LineStep WireFault) : Type 0 where
+pub record OnlyPreambleAnswerBy (form : LineForm) (k : ℕ) (received piece : List ℕ) (result : Result LineStep WireFault) : Type 0 where
   pub more : (left : ℕ) (line : List ℕ) → LineOpen k (received ++ piece) left line → (result ≡ Ok step.More) ⊎ (result ≡ Err Memory)
-  pub done : (used : ℕ) (text : List ℕ) → used ≤ length piece → Preamble k text (received ++ take used piece)
+  pub done : (used : ℕ) (text : List ℕ) → used ≤ length piece → PreambleBy form k text (received ++ take used piece)
       → (result ≡ Ok (step.Done text used)) ⊎ (result ≡ Err Memory)
-  pub refused : (place : ℕ) (code : WireFault) → LineRefused k (received ++ piece) place code → (result ≡ Err code) ⊎ (result ≡ Err Memory)
+  pub refused : (place : ℕ) (code : WireFault) → LineRefusedBy form k (received ++ piece) place code → (result ≡ Err code) ⊎ (result ≡ Err Memory)
+
+abbrev pub OnlyPreambleAnswer : ℕ → List ℕ → List ℕ → Result LineStep WireFault → Type 0
+OnlyPreambleAnswer k received piece result = OnlyPreambleAnswerBy Strict k received piece result
 
 -- After More the reader may be fed again, after Done not; after a refusal it stays refused.
 abbrev pub Leaves : Result LineStep WireFault → Progress → Type 0

@@ -2,6 +2,7 @@ pub mod Lines
 pub mod Reading
 pub mod Meaning
 pub mod LineReaderData
+pub mod PeerLineReaderInside
 pub mod Feeding
 pub mod Types
 pub mod TypeReadings

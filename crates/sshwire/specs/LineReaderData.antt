@@ -2,6 +2,7 @@
 
 use Rattle.std.specs.Prelude.{ℕ, List, [], length}
 use Rattle.sshwire.specs.declared.fault.WireFault.{WireFault}
+use Rattle.sshwire.specs.declared.line_form.LineForm.{LineForm}
 
 -- it has so many other lines left and holds an unfinished line, or has answered a version line, or has refused
 pub data Progress : Type 0 where
@@ -13,6 +14,11 @@ pub data Progress : Type 0 where
 pub record LineReaderData : Type 0 where
   pub progress : Progress
   pub taken : ℕ
+
+-- of a reader that was given a form: the same, and the form
+pub record PeerLineReaderData : Type 0 where
+  pub state : LineReaderData
+  pub form : LineForm
 
 -- the bytes of the unfinished line
 abbrev pub unfinished : Progress → List ℕ

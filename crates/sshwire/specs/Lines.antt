@@ -1,11 +1,17 @@
 -- Version lines and what may stand before them: RFC 4253 section 4.2.
 -- This project's profile: comments have printable US-ASCII alone, as the softwareversion has; only protoversion 2.0
 -- is taken (section 5.1 lets a client take 1.99 too); the limits on other lines and their number; the order of judgement.
+-- Beside it stands a second grammar, of what deployed peers write. A name that ends with By takes the form; the same name
+-- without it is that of the strict one.
 
 use Rattle.std.specs.Prelude.{◌≡◌, ◌≢◌, ℕ, ◌+◌, ◌-◌, ◌<◌, ◌≤◌, ◌⊎◌, List, [], ◌∷◌, ◌++◌, length, take, Option, None, Some, IfSome}
 use Rattle.std.specs.List.{AllByRecursion, flat_map}
 use Rattle.sshwire.specs.declared.fault.WireFault.{WireFault}
 use Rattle.sshwire.specs.declared.limits.TheConstants.{LINE_LIMIT}
+use Rattle.sshwire.specs.declared.line_form.LineForm.{LineForm}
+use Rattle.sshwire.specs.declared.line_form.LineForm.TheVariants.{Strict, Deployed}
+use Rattle.sshwire.specs.declared.line_form.ReadBy.{ReadBy}
+use Rattle.sshwire.specs.declared.line_form.ReadBy.TheVariants.{Client, Server}
 use Rattle.sshwire.specs.declared.fault.WireFault.TheVariants.{Line, TooLong, TooManyLines, Memory}
 
 -- a byte of the softwareversion: printable US-ASCII, and neither space nor minus sign
@@ -59,6 +65,48 @@ pub record IsWholeLine (line : List ℕ) : Type 0 where
   pub version : IsVersionText (text_in line)
   pub line_is : line ≡ version_line (text_in line)
 
+abbrev pub with_lf : List ℕ → List ℕ
+with_lf line = line ++ 10 ∷ []
+
+-- SSH-1.99-, by which a server says that it has 2.0 and older versions besides
+abbrev pub ssh_1_99 : List ℕ
+ssh_1_99 = 83 ∷ 83 ∷ 72 ∷ 45 ∷ 49 ∷ 46 ∷ 57 ∷ 57 ∷ 45 ∷ []
+
+-- what a deployed peer's text begins with: SSH-2.0-, and where a client reads also SSH-1.99-, which it takes as 2.0
+-- (RFC 4253 section 5.1)
+abbrev pub IsProtocol : ReadBy → List ℕ → Type 0
+IsProtocol Client protocol = (protocol ≡ ssh_2_0) ⊎ (protocol ≡ ssh_1_99)
+IsProtocol Server protocol = protocol ≡ ssh_2_0
+
+-- a byte of a deployed peer's softwareversion: printable US-ASCII and no space; it may be a minus sign
+pub record IsDeployedByte (b : ℕ) : Type 0 where
+  pub above_space : 33 ≤ b
+  pub printable : b ≤ 126
+
+-- The text of a deployed peer's version line, without what ends it: it differs from IsVersionText in what it begins with and
+-- in the bytes of the softwareversion.
+pub record IsDeployedText (by : ReadBy) (text : List ℕ) : Type 0 where
+  pub protocol : List ℕ
+  pub is_protocol : IsProtocol by protocol
+  pub software : List ℕ
+  pub comments : Option (List ℕ)
+  pub text_is : text ≡ protocol ++ (software ++ comment_part comments)
+  pub not_empty : 0 < length software
+  pub software_bytes : AllByRecursion IsDeployedByte software
+  pub comment_bytes : IfSome comments (AllByRecursion IsCommentByte)
+  pub short : length text ≤ LINE_LIMIT - 2
+
+-- the text of a version line of this form
+abbrev pub IsTextBy : LineForm → List ℕ → Type 0
+IsTextBy Strict text = IsVersionText text
+IsTextBy (Deployed by) text = IsDeployedText by text
+
+-- The bytes are these in front and then the text with what ends its line: CR LF. As deployed peers write it LF alone may end
+-- it: RFC 4253 section 4.2 leaves that to implementers, and by section 5.1 a server that says 1.99 sends no CR.
+abbrev pub IsLineAfter : LineForm → List ℕ → List ℕ → List ℕ → Type 0
+IsLineAfter Strict front text bytes = bytes ≡ front ++ version_line text
+IsLineAfter (Deployed by) front text bytes = (bytes ≡ front ++ version_line text) ⊎ (bytes ≡ front ++ with_lf text)
+
 -- a byte of a line before its LF
 pub record IsLineByte (b : ℕ) : Type 0 where
   pub no_nul : b ≢ 0
@@ -77,20 +125,20 @@ pub record IsOtherLine (line : List ℕ) : Type 0 where
   pub unfinished : IsUnfinished line
   pub no_ssh : BeginsSsh line → ⊥
 
-abbrev pub with_lf : List ℕ → List ℕ
-with_lf line = line ++ 10 ∷ []
-
 -- the lines one after another, each with its LF
 abbrev pub joined : List (List ℕ) → List ℕ
 joined lines = flat_map with_lf lines
 
 -- at most k other lines, and then the version line of the text
-pub record Preamble (k : ℕ) (text bytes : List ℕ) : Type 0 where
+pub record PreambleBy (form : LineForm) (k : ℕ) (text bytes : List ℕ) : Type 0 where
   pub others : List (List ℕ)
   pub few : length others ≤ k
   pub each : AllByRecursion IsOtherLine others
-  pub version : IsVersionText text
-  pub bytes_are : bytes ≡ joined others ++ version_line text
+  pub version : IsTextBy form text
+  pub bytes_are : IsLineAfter form (joined others) text bytes
+
+abbrev pub Preamble : ℕ → List ℕ → List ℕ → Type 0
+Preamble k text bytes = PreambleBy Strict k text bytes
 
 -- no LF stands in the line
 abbrev pub HasNoLf : List ℕ → Type 0
@@ -107,27 +155,36 @@ pub record IsPlace (bytes : List ℕ) (i : ℕ) (lines : List (List ℕ)) (line 
 -- why the byte after these lines and this prefix of a line is refused: it is a NUL, or the LF of a line that
 -- begins with SSH- and is no version line; or byte 255 of its line, and neither LF nor NUL;
 -- or the LF of other line k + 1
-abbrev pub IsCause : ℕ → List (List ℕ) → List ℕ → ℕ → WireFault → Type 0
-IsCause k lines line byte Line =
-    (byte ≡ 0) ⊎ ((byte ≡ 10) × BeginsSsh line × ((text : List ℕ) → IsVersionText text → with_lf line ≡ version_line text → ⊥))
-IsCause k lines line byte TooLong = (byte ≢ 0) × (byte ≢ 10) × (length line ≡ LINE_LIMIT - 1)
-IsCause k lines line byte TooManyLines =
+abbrev pub IsCauseBy : LineForm → ℕ → List (List ℕ) → List ℕ → ℕ → WireFault → Type 0
+IsCauseBy form k lines line byte Line =
+    (byte ≡ 0) ⊎ ((byte ≡ 10) × BeginsSsh line × ((text : List ℕ) → IsTextBy form text → IsLineAfter form [] text (with_lf line) → ⊥))
+IsCauseBy form k lines line byte TooLong = (byte ≢ 0) × (byte ≢ 10) × (length line ≡ LINE_LIMIT - 1)
+IsCauseBy form k lines line byte TooManyLines =
     (byte ≡ 10) × IsOtherLine line × AllByRecursion IsOtherLine lines × (length lines ≡ k)
-IsCause k lines line byte _ = ⊥
+IsCauseBy form k lines line byte _ = ⊥
+
+abbrev pub IsCause : ℕ → List (List ℕ) → List ℕ → ℕ → WireFault → Type 0
+IsCause k lines line byte code = IsCauseBy Strict k lines line byte code
 
 -- at place i stands a cause of this refusal
-pub record HasCause (k : ℕ) (bytes : List ℕ) (i : ℕ) (code : WireFault) : Type 0 where
+pub record HasCauseBy (form : LineForm) (k : ℕ) (bytes : List ℕ) (i : ℕ) (code : WireFault) : Type 0 where
   pub lines : List (List ℕ)
   pub line : List ℕ
   pub byte : ℕ
   pub at : IsPlace bytes i lines line byte
-  pub cause : IsCause k lines line byte code
+  pub cause : IsCauseBy form k lines line byte code
+
+abbrev pub HasCause : ℕ → List ℕ → ℕ → WireFault → Type 0
+HasCause k bytes i code = HasCauseBy Strict k bytes i code
 
 -- The bytes are refused at place i: it is the least place at which a cause stands, and no preamble ends before it.
-pub record LineRefused (k : ℕ) (bytes : List ℕ) (i : ℕ) (code : WireFault) : Type 0 where
-  pub cause : HasCause k bytes i code
-  pub least : (j : ℕ) (other : WireFault) → j < i → HasCause k bytes j other → ⊥
-  pub no_preamble : (j : ℕ) (text : List ℕ) → j ≤ i → Preamble k text (take j bytes) → ⊥
+pub record LineRefusedBy (form : LineForm) (k : ℕ) (bytes : List ℕ) (i : ℕ) (code : WireFault) : Type 0 where
+  pub cause : HasCauseBy form k bytes i code
+  pub least : (j : ℕ) (other : WireFault) → j < i → HasCauseBy form k bytes j other → ⊥
+  pub no_preamble : (j : ℕ) (text : List ℕ) → j ≤ i → PreambleBy form k text (take j bytes) → ⊥
+
+abbrev pub LineRefused : ℕ → List ℕ → ℕ → WireFault → Type 0
+LineRefused k bytes i code = LineRefusedBy Strict k bytes i code
 
 -- Neither has come yet: other lines, so many fewer than k, and an unfinished line.
 pub record LineOpen (k : ℕ) (bytes : List ℕ) (left : ℕ) (line : List ℕ) : Type 0 where

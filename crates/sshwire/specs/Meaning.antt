@@ -2,26 +2,37 @@
 
 use Rattle.std.specs.Prelude.{◌≡◌, ◌≤◌, ℕ, ◌+◌, List, ◌++◌, drop, length}
 use Rattle.sshwire.specs.declared.fault.WireFault.{WireFault}
-use Rattle.sshwire.specs.Lines.{Preamble, LineRefused, LineOpen}
+use Rattle.sshwire.specs.declared.line_form.LineForm.{LineForm}
+use Rattle.sshwire.specs.declared.line_form.LineForm.TheVariants.{Strict}
+use Rattle.sshwire.specs.Lines.{LineOpen, LineRefused, LineRefusedBy, PreambleBy}
 use Rattle.sshwire.specs.Reading.{Reading, More, Got, Stop}
 
 -- a prefix of the bytes is a preamble, and the rest stands after it
-pub record EndsPreamble (k : ℕ) (bytes text rest : List ℕ) : Type 0 where
+pub record EndsPreambleBy (form : LineForm) (k : ℕ) (bytes text rest : List ℕ) : Type 0 where
   pub prefix : List ℕ
   pub bytes_are : bytes ≡ prefix ++ rest
-  pub preamble : Preamble k text prefix
+  pub preamble : PreambleBy form k text prefix
+
+abbrev pub EndsPreamble : ℕ → List ℕ → List ℕ → List ℕ → Type 0
+EndsPreamble k bytes text rest = EndsPreambleBy Strict k bytes text rest
 
 -- the bytes are refused at a place, and the rest stands after it
-pub record EndsRefused (k : ℕ) (bytes : List ℕ) (code : WireFault) (rest : List ℕ) : Type 0 where
+pub record EndsRefusedBy (form : LineForm) (k : ℕ) (bytes : List ℕ) (code : WireFault) (rest : List ℕ) : Type 0 where
   pub place : ℕ
-  pub refused : LineRefused k bytes place code
+  pub refused : LineRefusedBy form k bytes place code
   pub rest_is : rest ≡ drop (place + 1) bytes
 
+abbrev pub EndsRefused : ℕ → List ℕ → WireFault → List ℕ → Type 0
+EndsRefused k bytes code rest = EndsRefusedBy Strict k bytes code rest
+
 -- what the bytes are, where at most k other lines are accepted
+abbrev pub ReadingMeansBy : LineForm → ℕ → List ℕ → Reading → Type 0
+ReadingMeansBy form k bytes (More left line) = LineOpen k bytes left line
+ReadingMeansBy form k bytes (Got text rest) = EndsPreambleBy form k bytes text rest
+ReadingMeansBy form k bytes (Stop code rest) = EndsRefusedBy form k bytes code rest
+
 abbrev pub ReadingMeans : ℕ → List ℕ → Reading → Type 0
-ReadingMeans k bytes (More left line) = LineOpen k bytes left line
-ReadingMeans k bytes (Got text rest) = EndsPreamble k bytes text rest
-ReadingMeans k bytes (Stop code rest) = EndsRefused k bytes code rest
+ReadingMeans k bytes r = ReadingMeansBy Strict k bytes r
 
 -- a prefix of the bytes is a preamble of this version text
 abbrev pub BeginsPreamble : ℕ → List ℕ → List ℕ → Type 0

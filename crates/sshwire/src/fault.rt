@@ -43,7 +43,7 @@ pub enum WireFault {
     NotCanonical,
     /// V4: a NUL in a line, or a line that begins with `SSH-` and isn't a version line of
     /// protoversion 2.0 (RFC 4253 section 4.2; that 1.99 is refused is profile). Also bytes that
-    /// are parsed as a version line and are none.
+    /// are parsed as a version line and are none. A `PeerLineReader` takes those of its form.
     Line,
     /// V5: a line is longer than 255 bytes with its LF (RFC 4253 section 4.2; for other lines than
     /// the version line it is profile).

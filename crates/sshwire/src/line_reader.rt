@@ -1,16 +1,16 @@
 //! Reads the lines at the start of a stream, up to the version line.
 
-ghost use Rattle.std.specs.Prelude.{◌≡◌, ◌≢◌, ◌-◌, ◌≤◌, ◌↔◌, ℕ, IsTrue, List, [], ◌∷◌, ◌++◌, length, drop, take, None, Ok, Err};
-ghost use Rattle.sshwire.specs.Lines.{IsUnfinished};
+ghost use Rattle.std.specs.Prelude.{◌≡◌, ◌≢◌, ◌-◌, ◌≤◌, ◌↔◌, ℕ, IsTrue, List, [], ◌++◌, length, take, Err};
 ghost use Rattle.sshwire.specs.LineReaderData.{Finished, Waits, held, unfinished};
-ghost use Rattle.sshwire.specs.Reading.{ReadsTo, reading};
+ghost use Rattle.sshwire.specs.Reading.{reading};
 
-use crate::fault::WireFault;
+use crate::fault::{Memory, WireFault};
 use crate::limits::LINE_LIMIT;
+use crate::line_form::LineForm;
+use crate::peer_line_reader::PeerLineReader;
 use crate::version_line::VersionLine;
 use std::alloc::Global;
 use std::marker::Model;
-use std::mem;
 
 /// What a piece of the stream brought.
 #[derive(Debug, Drop)]
@@ -27,24 +27,12 @@ pub enum LineStep {
     },
 }
 
-/// How far a reader has come.
-#[derive(Clone, Copy, Debug, PartialEq, Eq)]
-enum Ending {
-    Open,
-    Done,
-    Refused(WireFault),
-}
-
 /// Reads a stream up to its version line, in pieces of any length (RFC 4253 section 4.2).
 ///
 /// It holds the bytes of the unfinished line and nothing older.
 #[derive(Debug, Drop)]
 pub struct LineReader {
-    alloc: Global,
-    left: u32,
-    line: Vec<u8>,
-    ending: Ending,
-    taken: usize,
+    lines: PeerLineReader,
 }
 
 impl Model for LineReader {
@@ -71,11 +59,7 @@ impl LineReader {
         ensures nothing { StandsOpen others [] result.progress }
     {
         LineReader {
-            alloc,
-            left: others,
-            line: Vec::new(alloc),
-            ending: Ending::Open,
-            taken: 0,
+            lines: PeerLineReader::new(alloc, others, LineForm::Strict),
         }
     }
 
@@ -131,14 +115,14 @@ impl LineReader {
     pub fn is_done(&self) -> bool
         ensures exact { IsTrue result ↔ (self.now.progress ≡ Finished) }
     {
-        self.ending == Ending::Done
+        self.lines.is_done()
     }
 
     /// How many bytes the last call of `feed` used, the refused byte included; 0 before the first.
     pub fn taken(&self) -> usize
         ensures { result ≡ self.now.taken }
     {
-        self.taken
+        self.lines.taken()
     }
 
     /// How many bytes of the unfinished line are held; 0 once the reader has answered or refused.
@@ -146,14 +130,14 @@ impl LineReader {
         ensures held { result ≡ held self.now.progress }
         ensures bound { result ≤ LINE_LIMIT - 1 }
     {
-        self.line.len()
+        self.lines.buffered()
     }
 
     /// The bytes of the unfinished line; none once the reader has answered or refused. Takes no memory.
     pub fn unfinished(&self) -> &[u8]
         ensures { result.now ≡ unfinished self.now.progress }
     {
-        &self.line
+        self.lines.unfinished()
     }
 
     /// Reads the next bytes after the unfinished line that is held.
@@ -166,95 +150,19 @@ impl LineReader {
         ensures reads { (left : ℕ) (line : List ℕ) → self.old.progress ≡ Waits left line
             → FeedAnswer (reading left line piece.now) piece.now result self.new }
     {
-        if let Ending::Refused(fault) = self.ending {
-            self.taken = 0;
-            return Err(fault);
-        }
-        let (taken, outcome) = take_bytes(self.alloc, &mut self.left, &mut self.line, piece);
-        self.taken = taken;
-        match outcome {
+        match self.lines.take_line(piece) {
             Ok(None) => Ok(LineStep::More),
-            Ok(Some(version)) => {
-                self.ending = Ending::Done;
-                Ok(LineStep::Done {
+            Ok(Some(line)) => match VersionLine::of_unfinished(line) {
+                Ok(version) => Ok(LineStep::Done {
                     version,
-                    used: taken,
-                })
-            }
-            Err(fault) => {
-                self.ending = Ending::Refused(fault);
-                self.line.clear();
-                Err(fault)
-            }
+                    used: self.lines.taken(),
+                }),
+                Err(Memory) => {
+                    self.lines.refuse(WireFault::Memory);
+                    Err(WireFault::Memory)
+                }
+            },
+            Err(fault) => Err(fault),
         }
     }
-}
-
-/// Reads bytes until the version line or a refusal comes, and says how many it read.
-fn take_bytes(
-    alloc: Global,
-    left: &mut u32,
-    line: &mut Vec<u8>,
-    piece: &[u8],
-) -> (usize, Result<Option<VersionLine>, WireFault>)
-    requires { IsUnfinished line.old.items }
-    ensures taken { result.0 ≤ length piece.now }
-    ensures all { result.1 ≡ Ok None → result.0 ≡ length piece.now }
-    ensures reads { ReadsTo (reading left.old line.old.items piece.now) left.new line.new.items
-        (drop result.0 piece.now) result.1 }
-{
-    for (i, b) in piece.iter().enumerate() {
-        match take_byte(alloc, left, line, *b) {
-            Ok(None) => {}
-            Ok(Some(version)) => return (i + 1, Ok(Some(version))),
-            Err(fault) => return (i + 1, Err(fault)),
-        }
-    }
-    (piece.len(), Ok(None))
-}
-
-/// Reads one byte.
-fn take_byte(
-    alloc: Global,
-    left: &mut u32,
-    line: &mut Vec<u8>,
-    b: u8,
-) -> Result<Option<VersionLine>, WireFault>
-    requires { IsUnfinished line.old.items }
-    ensures { ReadsTo (reading left.old line.old.items (b ∷ [])) left.new line.new.items [] result }
-{
-    if b == 0 {
-        return Err(WireFault::Line);
-    }
-    if b == b'\n' {
-        return end_line(alloc, left, line);
-    }
-    if line.len() >= LINE_LIMIT - 1 {
-        return Err(WireFault::TooLong);
-    }
-    match line.push(b) {
-        Ok(()) => Ok(None),
-        Err(_) => Err(WireFault::Memory),
-    }
-}
-
-/// Reads the LF of the line.
-fn end_line(
-    alloc: Global,
-    left: &mut u32,
-    line: &mut Vec<u8>,
-) -> Result<Option<VersionLine>, WireFault>
-    requires { IsUnfinished line.old.items }
-    ensures { ReadsTo (reading left.old line.old.items (10 ∷ [])) left.new line.new.items [] result }
-{
-    if line.starts_with(b"SSH-") {
-        let version = VersionLine::of_unfinished(mem::replace(line, Vec::new(alloc)))?;
-        return Ok(Some(version));
-    }
-    if *left == 0 {
-        return Err(WireFault::TooManyLines);
-    }
-    *left -= 1;
-    line.clear();
-    Ok(None)
 }

@@ -122,20 +122,14 @@ impl VersionLine {
         }
     }
 
-    /// The version line that these bytes and an LF after them are. Answers `Line` where they are none,
-    /// and `Memory` only where they are one.
+    /// The version line that these bytes and an LF after them are.
     #[tactic(auto, using(crate::proofs::VersionText::whole_line_from_test))]
-    pub(crate) fn of_unfinished(mut line: Vec<u8>) -> Result<VersionLine, WireFault>
-        ensures ok { IfOk result (λ text. (is_version_line (with_lf line.items) ≡ true) × (text ≡ text_in (with_lf line.items))) }
-        ensures err { IfErr result (λ code. code ≡ (if is_version_line (with_lf line.items) then WireFault.Memory else WireFault.Line)) }
+    pub(crate) fn of_unfinished(mut line: Vec<u8>) -> Result<VersionLine, Memory>
+        requires { is_version_line (with_lf line.items) ≡ true }
+        ensures { IfOk result (λ text. text ≡ text_in (with_lf line.items)) }
     {
-        if !is_unfinished_version_line(&line) {
-            return Err(WireFault::Line);
-        }
-        match line.push(b'\n') {
-            Ok(()) => Ok(VersionLine { line }),
-            Err(_) => Err(WireFault::Memory),
-        }
+        line.push(b'\n')?;
+        Ok(VersionLine { line })
     }
 }
 
@@ -174,7 +168,7 @@ fn is_version_line(line: &[u8]) -> bool
 
 /// Whether the bytes and an LF after them are a version line.
 #[tactic(auto, using(crate::proofs::VersionText::unfinished_test))]
-fn is_unfinished_version_line(line: &[u8]) -> bool
+pub(crate) fn is_unfinished_version_line(line: &[u8]) -> bool
     ensures { result ≡ is_version_line (with_lf line.now) }
 {
     line.ends_with(b"\r") && is_version_text(&line[..line.len() - 1])
@@ -226,7 +220,7 @@ fn are_parts(software: &[u8], comments: &[u8]) -> bool
 }
 
 /// What stands before the first space, and after it.
-fn split_at_space(bytes: &[u8]) -> (&[u8], &[u8])
+pub(crate) fn split_at_space(bytes: &[u8]) -> (&[u8], &[u8])
     ensures before { result.0.now ≡ before_first is_space bytes.now }
     ensures after { result.1.now ≡ after_first is_space bytes.now }
 {
@@ -248,7 +242,7 @@ fn are_software_bytes(bytes: &[u8]) -> bool
     bytes.iter().all(|b| is_software_byte(*b))
 }
 
-fn are_comment_bytes(bytes: &[u8]) -> bool
+pub(crate) fn are_comment_bytes(bytes: &[u8]) -> bool
     ensures { result ≡ list_all is_comment_byte bytes.now }
 {
     bytes.iter().all(|b| is_comment_byte(*b))

@@ -1,10 +1,12 @@
 -- What accepted configs write is read again.
 
-use Rattle.std.proofs.Common.{◌≡◌, ◌≢◌, ◌⊎◌, ℕ, ◌+◌, ◌≤◌, Bool, true, false, List, [], ◌∷◌, length, slice_get, take, Option, Some, Ok, refl, sym, subst, arith}
+use Rattle.std.proofs.Common.{◌≡◌, ◌≢◌, ◌⊎◌, inl, inr, ℕ, ◌+◌, ◌≤◌, Bool, true, false, List, [], ◌∷◌, length, slice_get, take, Option, Some, Ok, refl, sym, subst, arith}
 use Rattle.std.specs.List.{AllByRecursion}
 use Rattle.std.proofs.lemmas.Bool.Decides.{nat_tests}
-use Rattle.std.specs.Str.{IsUtf8}
-use Rattle.std.specs.Prelude.{Contains, IfSome}
+use Rattle.std.specs.Prelude.{Contains, IfSome, codes}
+use Rattle.std.proofs.lemmas.Bool.{cases_Bool, true≢false}
+use Rattle.std.proofs.lemmas.Slice.Eq.{bytes_eq-Decides}
+use Rattle.std.specs.Str.{IsUtf8, bytes_eq}
 use Rattle.sshwire.specs.declared.share_form.ShareForm.{ShareForm}
 use Rattle.sshwire.specs.declared.share_form.ShareForm.TheVariants.{Hybrid, Mpint, OctetString}
 use Rattle.sshwire.specs.Types.{IsBytes, IsName}
@@ -18,7 +20,7 @@ use Rattle.sshneg.specs.declared.side.Side.TheVariants.{Client, Server}
 use Rattle.sshneg.specs.ChoiceReadings.{choice, is_in}
 use Rattle.sshneg.specs.Derivations.{signed_text}
 use Rattle.sshneg.specs.Fields.{AlgorithmsData}
-use Rattle.sshneg.specs.Markers.{strict_marker}
+use Rattle.sshneg.specs.Markers.{is_marker, strict_marker}
 use Rattle.sshneg.proofs.ChoiceLaws.{choice_sound}
 use Rattle.sshneg.proofs.ChoicePlaces.{well}
 use Rattle.sshneg.proofs.FirstLemmas.{contains_in}
@@ -27,7 +29,7 @@ use Rattle.sshpacket.specs.Suite.{Agrees, IsAgreeing, IsLawful, ResponseData, Su
 use Rattle.sshcore.specs.declared.config_fault.ConfigFault.TheVariants as fault
 use Rattle.sshcore.specs.Attempts.{method_by}
 use Rattle.sshcore.specs.ConfigParts.{AttemptData, ByKey, ByNothing, ByPassword, ClientData, CredentialData, ServerData, client_offer, server_offer}
-use Rattle.sshcore.specs.ConfigRules.{HasShortPassword, IsClient, IsNamed, IsServer}
+use Rattle.sshcore.specs.ConfigRules.{HasShortPassword, IsClient, IsNamed, IsServer, IsUnmarked}
 use Rattle.sshcore.specs.Counting.{switched_out}
 use Rattle.sshcore.specs.Exchange.{answer_or, secret_of}
 use Rattle.sshcore.specs.EndpointParts.{DecisionsData, config_of_client, config_of_server}
@@ -93,6 +95,14 @@ not_in names name none = by (is_in names name) refl
     by true e = absurd (none (contains_in names name e))
     by false e = e
 
+-- where no name is a marker none asks for extensions
+unasking : (kex : List (List ℕ)) → AllByRecursion IsUnmarked kex → is_in kex (codes "ext-info-c") ≡ false
+unasking [] all = refl
+unasking (x ∷ kex) all = elim (cases_Bool (bytes_eq (codes "ext-info-c") x)) [
+  | inl e ↦ absurd (true≢false (subst (λ (n : List ℕ). is_marker n ≡ false) (sym ((bytes_eq-Decides (codes "ext-info-c") x).0 e)) all.0))
+  | inr e ↦ rw e (unasking kex all.1)
+]
+
 module _ (m : SuiteData) (law : IsLawful m) (below : Below m) (c : ClientData) (s : ServerData) (client : IsClient c) (server : IsServer s) where
   pub offers_read : AreOffersRead c s
   offers_read = record {
@@ -127,6 +137,7 @@ module _ (m : SuiteData) (law : IsLawful m) (below : Below m) (c : ClientData) (
   pub sound : AreSound c s
   sound = record {
     client_unmarked = not_in c.side.kex_algorithms (strict_marker Client) (below.client_unmarked c client Client);
+    client_unasking = unasking c.side.kex_algorithms (client.keeps fault.Name).1;
     server_unmarked = not_in s.side.kex_algorithms (strict_marker Server) (below.server_unmarked s server Server);
     named = each_named c.plan (client.keeps fault.Name).2;
     required = (server.keeps fault.Name).3;

@@ -15,7 +15,7 @@ use Rattle.sshcore.specs.Sessions.{IsSession}
 use Rattle.sshcore.specs.EndpointData.{endpoint_setup}
 use Rattle.sshworld.specs.declared.node.Node.{Node}
 use Rattle.sshworld.specs.Joined.{AreCrosswise, AreJoined, HandOver}
-use Rattle.sshworld.specs.Nodes.{NodesStand}
+use Rattle.sshworld.specs.Nodes.{NodesStand, seen}
 use Rattle.sshworld.specs.Understood.{AreUnderstood}
 
 some_taken : (n : ℕ) (sent : List ℕ) → IsPrefix (take n sent) sent
@@ -82,10 +82,19 @@ module _ {S D : Type 0} (meaning : S → SuiteData) (policy : D → DecisionsDat
       → ((x y : Session) → AreUnderstood (meaning client.endpoint.suite) (policy client.endpoint.decisions) c s
       → IsSession (endpoint_setup meaning policy client.endpoint) nodes_joined.client_after.units nodes_joined.client_after.answers a x
       → IsSession (endpoint_setup meaning policy server.endpoint) nodes_joined.server_after.units nodes_joined.server_after.answers b y → AreCrosswise x y)
-      → HandOver (AreUnderstood (meaning suite) (policy decisions) c s) c s a b (option_zip r q)
+      → HandOver meaning policy (AreUnderstood (meaning suite) (policy decisions) c s) (seen c s suite decisions client server) a b (option_zip r q)
   unfolding client_after server_after nodes_joined
   handed r q (x, rx, sx, _) (y, qy, sy, _) law =
-      subst (λ (t : Option (Session × Session)). HandOver (AreUnderstood (meaning suite) (policy decisions) c s) c s a b t) (zip_both r q x y rx qy) (record {
+      subst (λ (t : Option (Session × Session)). HandOver meaning policy (AreUnderstood (meaning suite) (policy decisions) c s) (seen c s suite decisions client server) a b t) (zip_both r q x y rx qy) (record {
+        of_client = client.endpoint;
+        of_server = server.endpoint;
+        client_end = refl;
+        server_end = refl;
+        one_suite = stands.client_stands.is_suite;
+        same_decisions = stands.client_stands.is_decisions;
+        joined = nodes_joined;
+        client_session = sx;
+        server_session = sy;
         client_agreed = sx.agreed_is;
         server_agreed = sy.agreed_is;
         client_version = sx.own_version ∙ ap (λ (q : ConfigData). q.version) stands.client_stands.is_config;

@@ -70,6 +70,17 @@ decided_if : (sent : Bool) (decide : Option ProofData → Bool) (p : ProofData) 
 decided_if sent decide p given none true = given
 decided_if sent decide p given none false = none
 
+-- of a key, whose signature is the key's
+decided_able : (sent : Bool) (decide : Option ProofData → Bool) (p : ProofData) → decide (Some p) ≡ sent → decide None ≡ false → (listed able : Bool)
+    → decide (if listed then (if able && true then Some p else None) else None) ≡ ((listed && able) && sent)
+decided_able sent decide p given none true true = given
+decided_able sent decide p given none true false = none
+decided_able sent decide p given none false able = none
+
+and_apart : (a b c : Bool) → (a && (b && c)) ≡ ((a && b) && c)
+and_apart true b c = refl
+and_apart false b c = refl
+
 -- where no more requests stood than are granted, the last one is the one of that number
 last_test : (n t : ℕ) → n ≤ t → nat_le t n ≡ (n == t)
 last_test n t h = grind (arith, nat_tests)
@@ -91,7 +102,7 @@ method_named m session user service (ByKey algorithm secret false) = refl
 
 module _ (m : SuiteData) (d : DecisionsData) (c : ClientData) (s : ServerData) (sound : AreSound c s) (a : AlgorithmsData) (session : List ℕ) where
   successful_same : (n : ℕ) (user service : List ℕ) (p : CredentialData) → IsTestedName p → CanSign m p
-      → is_successful_at m d (config_of_server s) session n user service (method_by m session user service p) ≡ (not (asks p) && (is_usable s.methods p && d.user n user service (proved_by m p)))
+      → is_successful_at m d (config_of_server s) session n user service (method_by m session user service p) ≡ (not (asks p) && (is_usable m s.methods p && d.user n user service (proved_by m p)))
   unfolding proof_in
   successful_same n user service ByNothing named signs = refl
   successful_same n user service (ByPassword password) named signs = decided_if (d.user n user service (PasswordProof password)) (λ o. is_decided d n user service o) (PasswordProof password) refl refl (is_in s.methods (codes "password"))
@@ -100,9 +111,9 @@ module _ (m : SuiteData) (d : DecisionsData) (c : ClientData) (s : ServerData) (
       let key : List ℕ = m.blob algorithm secret in
       let input : List ℕ = signed_text session user service algorithm key in
       ap (λ (v : Bool). is_decided d n user service (if is_in s.methods (codes "publickey")
-      then (if v && m.verify algorithm key input (m.sign algorithm secret input) then Some (KeyProof algorithm key) else None) else None)) named
-      ∙ ap (λ (v : Bool). is_decided d n user service (if is_in s.methods (codes "publickey") then (if v then Some (KeyProof algorithm key) else None) else None)) (signs input)
-      ∙ decided_if (d.user n user service (KeyProof algorithm key)) (λ o. is_decided d n user service o) (KeyProof algorithm key) refl refl (is_in s.methods (codes "publickey"))
+      then (if (v && (m.can algorithm).signature) && m.verify algorithm key input (m.sign algorithm secret input) then Some (KeyProof algorithm key) else None) else None)) named
+      ∙ ap (λ (v : Bool). is_decided d n user service (if is_in s.methods (codes "publickey") then (if (m.can algorithm).signature && v then Some (KeyProof algorithm key) else None) else None)) (signs input)
+      ∙ decided_able (d.user n user service (KeyProof algorithm key)) (λ o. is_decided d n user service o) (KeyProof algorithm key) refl refl (is_in s.methods (codes "publickey")) (m.can algorithm).signature
 
   -- what a request came to is the same at the endpoint and by the configs
   pub tried_same : (made : List AttemptData) (n : ℕ) (r : AttemptData) → n ≡ length made + 1 → IsTestedName r.proving → CanSign m r.proving
@@ -116,7 +127,7 @@ module _ (m : SuiteData) (d : DecisionsData) (c : ClientData) (s : ServerData) (
   tried_more made r = flat-push (λ before x. tried_by m d s before x ∷ []) [] made r
 
   -- where the server stands after the requests made
-  module _ (version kexinit : List ℕ) (shares : ShareForm) (left : List AttemptData) (strict first : Bool) (made : List AttemptData) where
+  module _ (version kexinit : List ℕ) (shares : ShareForm) (left : List AttemptData) (strict first : Bool) (allowance : Option ℕ) (made : List AttemptData) where
     abbrev k : Known
     k = record {
       version = version;
@@ -129,6 +140,7 @@ module _ (m : SuiteData) (d : DecisionsData) (c : ClientData) (s : ServerData) (
       reached = reached_after nothing_reached (tried_of m d s made);
       strict = strict;
       first = first;
+      allowance = allowance;
     }
 
     module _ (r : AttemptData) (granted : length made + 1 ≤ s.tries) where
@@ -174,8 +186,9 @@ module _ (m : SuiteData) (d : DecisionsData) (c : ClientData) (s : ServerData) (
 
     -- a query
     would_same : (user service algorithm secret : List ℕ) → is_name algorithm ≡ true → nat_le (length (m.blob algorithm secret)) 8192 ≡ true
-        → would_do d (config_of_server s) k user service algorithm (m.blob algorithm secret) ≡ is_proved m d s (length made + 1) (record { user = user; service = service; proving = ByKey algorithm secret true })
-    would_same user service algorithm secret named short = rw (named, short) refl
+        → would_do m d (config_of_server s) k user service algorithm (m.blob algorithm secret) ≡ is_proved m d s (length made + 1) (record { user = user; service = service; proving = ByKey algorithm secret true })
+    would_same user service algorithm secret named short =
+        rw (named, short) (and_apart (is_in s.methods (codes "publickey")) (m.can algorithm).signature (d.user (length made + 1) user service (KeyProof algorithm (m.blob algorithm secret))))
 
     method_same : (user service : List ℕ) (p : CredentialData) → IsTestedName p → CanSign m p → HasShortBlob m p → length made + 1 ≤ s.tries → agreed_by k user service ≡ agreed m c s a (record { user = user; service = service; proving = p })
         → method_reply m d (config_of_server s) k user service (method_by m session user service p)
@@ -190,7 +203,7 @@ module _ (m : SuiteData) (d : DecisionsData) (c : ClientData) (s : ServerData) (
         other_same (record { user = user; service = service; proving = ByKey algorithm secret false }) granted (successful_same (length made + 1) user service (ByKey algorithm secret false) named signs) refl agreed_is
     method_same user service (ByKey algorithm secret true) named signs short granted agreed_is =
         let r : AttemptData = record { user = user; service = service; proving = ByKey algorithm secret true } in
-        more_same r granted (query_answer d (config_of_server s) k user service algorithm (m.blob algorithm secret))
+        more_same r granted (query_answer m d (config_of_server s) k user service algorithm (m.blob algorithm secret))
         (ap (λ (b : Bool). if b then UserauthPkOk algorithm (m.blob algorithm secret) else UserauthFailure s.methods false) (would_same user service algorithm secret named short)) (length made + 1 == s.tries) refl
 
     pub judged : (r : AttemptData) → IsTestedName r.proving → CanSign m r.proving → HasShortBlob m r.proving → length made + 1 ≤ s.tries

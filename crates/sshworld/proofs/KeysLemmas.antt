@@ -35,7 +35,7 @@ use Rattle.sshworld.specs.Verdicts.{verdict}
 use Rattle.sshworld.specs.Wording.{Wording}
 use Rattle.sshworld.specs.Wordings.{method_used, wording_with}
 use Rattle.sshworld.proofs.JudgedLemmas.{client_strict, server_strict}
-use Rattle.sshworld.proofs.MessageLemmas.{client_begins, client_exchanges, client_hashed, client_view, init_begun, init_kind, reply_begun, server_begins, server_drops, server_exchanges, server_hashed, server_view}
+use Rattle.sshworld.proofs.MessageLemmas.{client_begins, client_exchanges, client_hashed, client_unswitched, init_begun, init_kind, reply_begun, server_begins, server_drops, server_exchanges, server_hashed, server_unswitched}
 use Rattle.sshworld.proofs.PartLemmas.{from}
 use Rattle.sshworld.proofs.PlacedLemmas.{bye, head, init_head, refused_sent}
 use Rattle.sshworld.proofs.Readable.{AreOffersRead, AreSound, IsRead}
@@ -75,7 +75,7 @@ module _ (m : SuiteData) (d : DecisionsData) (c : ClientData) (s : ServerData) (
     client_keys tail sender =
         let here = client_exchanges m d c s understood sound offers a chosen readable in
         keys_stay m Client (config_of_client c) (version_of s.side) (w.server_offer ∷ w.reply ∷ []) tail sender (record { offer = here.tied.offer; exchange = here.tied.exchange })
-        ∙ makes_keys (client_setup m d c) (version_of s.side) (w.server_offer ∷ []) w.reply (client_view m d c s understood sound offers a chosen readable [] c.plan)
+        ∙ makes_keys (client_setup m d c) (version_of s.side) (w.server_offer ∷ []) w.reply (client_unswitched m d c s understood sound offers a chosen readable [] c.plan)
         (client_begins m d c s understood sound offers a chosen readable) (reply_begun m d c s understood sound offers a chosen readable) sender
         ∙ ap (λ (x : ExchangeData). keys_by m a x sender) (client_hashed m d c s understood sound offers a chosen readable)
 
@@ -83,7 +83,7 @@ module _ (m : SuiteData) (d : DecisionsData) (c : ClientData) (s : ServerData) (
     client_exchange tail =
         let here = client_exchanges m d c s understood sound offers a chosen readable in
         exchange_stays m Client (config_of_client c) (version_of s.side) (w.server_offer ∷ w.reply ∷ []) tail (record { offer = here.tied.offer; exchange = here.tied.exchange })
-        ∙ makes_exchange (client_setup m d c) (version_of s.side) (w.server_offer ∷ []) w.reply (client_view m d c s understood sound offers a chosen readable [] c.plan)
+        ∙ makes_exchange (client_setup m d c) (version_of s.side) (w.server_offer ∷ []) w.reply (client_unswitched m d c s understood sound offers a chosen readable [] c.plan)
         (client_begins m d c s understood sound offers a chosen readable) (reply_begun m d c s understood sound offers a chosen readable)
         ∙ client_hashed m d c s understood sound offers a chosen readable
 
@@ -92,20 +92,20 @@ module _ (m : SuiteData) (d : DecisionsData) (c : ClientData) (s : ServerData) (
         let here = client_begins m d c s understood sound offers a chosen readable in
         strict_stays m Client (config_of_client c) (w.server_offer ∷ []) tail here.tied.offer ∙ ap (λ (k : Known). k.strict) here.knows ∙ client_strict c s sound
 
-    server_keys : (before tail : Units) → Sits (server_setup m d s) (version_of c.side) before phase.Exchange false (server_view m d c s understood sound offers a chosen readable [] 1 nothing_reached) → (sender : Side)
+    server_keys : (before tail : Units) → Sits (server_setup m d s) (version_of c.side) before phase.Exchange false (server_unswitched m d c s understood sound offers a chosen readable [] 1 nothing_reached) → (sender : Side)
         → keys_at m Server (config_of_server s) (version_of c.side) ((before ++ w.init ∷ []) ++ tail) sender ≡ keys_by m a (exchange_between m c s a) sender
     server_keys before tail sits sender =
         let here = server_exchanges m d c s understood sound offers a chosen readable before sits in
         keys_stay m Server (config_of_server s) (version_of c.side) (before ++ w.init ∷ []) tail sender (record { offer = here.tied.offer; exchange = here.tied.exchange })
-        ∙ makes_keys (server_setup m d s) (version_of c.side) before w.init (server_view m d c s understood sound offers a chosen readable [] 1 nothing_reached) sits (init_begun m d c s understood sound offers a chosen readable) sender
+        ∙ makes_keys (server_setup m d s) (version_of c.side) before w.init (server_unswitched m d c s understood sound offers a chosen readable [] 1 nothing_reached) sits (init_begun m d c s understood sound offers a chosen readable) sender
         ∙ ap (λ (x : ExchangeData). keys_by m a x sender) (server_hashed m d c s understood sound offers a chosen readable)
 
-    server_exchange : (before tail : Units) → Sits (server_setup m d s) (version_of c.side) before phase.Exchange false (server_view m d c s understood sound offers a chosen readable [] 1 nothing_reached)
+    server_exchange : (before tail : Units) → Sits (server_setup m d s) (version_of c.side) before phase.Exchange false (server_unswitched m d c s understood sound offers a chosen readable [] 1 nothing_reached)
         → exchange_at m Server (config_of_server s) (version_of c.side) ((before ++ w.init ∷ []) ++ tail) ≡ exchange_between m c s a
     server_exchange before tail sits =
         let here = server_exchanges m d c s understood sound offers a chosen readable before sits in
         exchange_stays m Server (config_of_server s) (version_of c.side) (before ++ w.init ∷ []) tail (record { offer = here.tied.offer; exchange = here.tied.exchange })
-        ∙ makes_exchange (server_setup m d s) (version_of c.side) before w.init (server_view m d c s understood sound offers a chosen readable [] 1 nothing_reached) sits (init_begun m d c s understood sound offers a chosen readable)
+        ∙ makes_exchange (server_setup m d s) (version_of c.side) before w.init (server_unswitched m d c s understood sound offers a chosen readable [] 1 nothing_reached) sits (init_begun m d c s understood sound offers a chosen readable)
         ∙ server_hashed m d c s understood sound offers a chosen readable
 
     server_is_strict : (tail : Units) → strict_at Server (config_of_server s) (w.client_offer ∷ tail) ≡ (c.side.strict && s.side.strict)

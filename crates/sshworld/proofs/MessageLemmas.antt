@@ -1,8 +1,11 @@
 -- What each side answers to each message of the other's.
 
-use Rattle.std.proofs.Common.{◌≡◌, ◌⊎◌, inl, inr, ℕ, ◌+◌, ◌==◌, ◌&&◌, Bool, true, false, if◌then◌else◌, not, List, [], ◌∷◌, ◌++◌, slice_get, Option, Some, Result, Ok, refl, sym, ap, ◌∙◌, subst}
+use Rattle.std.proofs.Common.{◌≡◌, ◌⊎◌, inl, inr, ℕ, ◌+◌, ◌==◌, ◌&&◌, Bool, true, false, if◌then◌else◌, not, List, [], ◌∷◌, ◌++◌, slice_get, Option, None, Some, Result, Ok, refl, sym, ap, ◌∙◌, subst}
+use Rattle.std.specs.Prelude.{codes}
+use Rattle.std.specs.List.{list_any}
 use Rattle.std.specs.Str.{bytes_eq}
 use Rattle.std.proofs.lemmas.Bool.{and_from}
+use Rattle.std.proofs.lemmas.List.Folds.{list_any-append}
 use Rattle.sshwire.specs.declared.share_form.ShareForm.{ShareForm}
 use Rattle.sshwire.specs.declared.share_form.ShareForm.TheVariants.{Hybrid, Mpint, OctetString}
 use Rattle.sshwire.specs.TypeReadings as readings
@@ -15,9 +18,9 @@ use Rattle.sshmsg.proofs.NumberLemmas.{kind_tells}
 use Rattle.sshneg.specs.declared.choice.NoCommon.{NoCommon}
 use Rattle.sshneg.specs.declared.side.Side.{Side}
 use Rattle.sshneg.specs.declared.side.Side.TheVariants.{Client, Server}
-use Rattle.sshneg.specs.ChoiceReadings.{choice}
+use Rattle.sshneg.specs.ChoiceReadings.{choice, is_in}
 use Rattle.sshneg.specs.Derivations.{ExchangeData}
-use Rattle.sshneg.specs.ExchangeEnd.{answer_by, exchange_by, exchange_hash}
+use Rattle.sshneg.specs.ExchangeEnd.{answer_by, exchange_by, exchange_hash, offer_by}
 use Rattle.sshneg.specs.Fields.{AlgorithmsData}
 use Rattle.sshneg.specs.Strictness.{is_right_guess, is_strict}
 use Rattle.sshneg.proofs.EndLemmas.{one_answer}
@@ -28,7 +31,7 @@ use Rattle.sshcore.specs.declared.table.Line.TheVariants as line
 use Rattle.sshcore.specs.declared.table.Phase.{Phase}
 use Rattle.sshcore.specs.declared.table.Phase.TheVariants as phase
 use Rattle.sshcore.specs.Attempts.{attempt_reply, method_by, request_of}
-use Rattle.sshcore.specs.ConfigParts.{AttemptData, ByKey, ClientData, ServerData, client_offer, server_offer, version_of}
+use Rattle.sshcore.specs.ConfigParts.{AttemptData, ByKey, ClientData, ServerData, client_offer, own_marker, server_offer, version_of}
 use Rattle.sshcore.specs.EndData.{Authenticated, Closed, fails, goes}
 use Rattle.sshcore.specs.Exchange.{answer_or, answer_with, chosen_or, exchange_with, shares_by}
 use Rattle.sshcore.specs.Known.{Known}
@@ -39,9 +42,10 @@ use Rattle.sshcore.specs.Reached.{ReachedData, nothing_reached, reached_after_on
 use Rattle.sshcore.specs.Replies.{reply_at}
 use Rattle.sshcore.specs.Requests.{request_reply}
 use Rattle.sshcore.specs.Standing.{LeavesNone, Sits, exchange_received}
-use Rattle.sshcore.specs.Table.{line_by}
+use Rattle.sshcore.specs.Table.{line_by, is_ignorable}
 use Rattle.sshcore.specs.Tries.{is_successful_at, tried_with}
-use Rattle.sshcore.specs.Work.{answered_by, banner_by, chosen_reply, init_for, init_in, init_reply, reply_in, reply_reply, signed_by, trusted_by, userauth, work}
+use Rattle.sshcore.specs.Work.{answered_by, asks_by, asks_for_extensions, banner_by, chosen_reply, init_for, init_in, init_reply, reply_in, reply_reply, signed_by, told_by, trusted_by, userauth, work}
+use Rattle.sshcore.proofs.ExtensionLemmas.{told_unasked}
 use Rattle.sshcore.proofs.ReachedLemmas.{bytes_self}
 use Rattle.sshworld.specs.Agreement.{answer_of_server, exchange_between, host_key_of_server, session_between}
 use Rattle.sshworld.specs.Offered.{offered}
@@ -177,13 +181,13 @@ module _ (setup : Setup) (version : List ℕ) where
       → reply_at setup version before (written_message (Disconnect reason [] [])) ≡ record { answers = []; end = Closed reason }
   unfolding work
   closed before p guess x reason h s =
-      reads setup version before (written_message (Disconnect reason [] [])) p guess x (Disconnect reason [] []) s (h x.shares) (closing_line _ setup.role p x.strict guess)
+      reads setup version before (written_message (Disconnect reason [] [])) p guess x (Disconnect reason [] []) refl s (h x.shares) (closing_line _ setup.role p x.strict guess)
 
   pub switched : (before : Units) (x : Known) → Sits setup version before phase.NewKeys false x → reply_at setup version before (written_message NewKeys) ≡ goes []
   unfolding work
-  switched before x s = reads setup version before (written_message NewKeys) phase.NewKeys false x NewKeys s (new_keys_read x.shares) (leaving_line _ setup.role phase.NewKeys x.strict)
+  switched before x s = reads setup version before (written_message NewKeys) phase.NewKeys false x NewKeys refl s (new_keys_read x.shares) (leaving_line _ setup.role phase.NewKeys x.strict)
 
-  pub switches : (before : Units) (x : Known) → Sits setup version before phase.NewKeys false x → Sits setup version (before ++ written_message NewKeys ∷ []) phase.Service false (record x { first = false })
+  pub switches : (before : Units) (x : Known) → Sits setup version before phase.NewKeys false x → Sits setup version (before ++ written_message NewKeys ∷ []) phase.Service false (record x { first = false; allowance = setup.config.ignored_limit })
   switches before x s = goes_leaving setup version before (written_message NewKeys) phase.NewKeys x NewKeys s refl (new_keys_read Mpint) refl
 
 -- the client
@@ -199,8 +203,8 @@ module _ (m : SuiteData) (d : DecisionsData) (c : ClientData) (s : ServerData) (
 
   module _ (a : AlgorithmsData) (chosen : choice m (client_offer c) (server_offer s) ≡ Ok a) (readable : IsRead m d c s a) where
     -- the client
-    abbrev pub client_known : Result AlgorithmsData NoCommon → List ℕ → List AttemptData → Known
-    client_known r session left = record {
+    abbrev pub client_known : Option ℕ → Result AlgorithmsData NoCommon → List ℕ → List AttemptData → Known
+    client_known allowance r session left = record {
       version = version_of s.side;
       kexinit = written_message (KexInit (server_offer s));
       algorithms = chosen_or r;
@@ -211,14 +215,19 @@ module _ (m : SuiteData) (d : DecisionsData) (c : ClientData) (s : ServerData) (
       reached = nothing_reached;
       strict = is_strict c.side.strict Client (server_offer s);
       first = false;
+      allowance = allowance;
     }
 
-    abbrev pub client_view : List ℕ → List AttemptData → Known
-    client_view session left = client_known (Ok a) session left
+    -- up to NEWKEYS, and after it
+    abbrev pub client_unswitched : List ℕ → List AttemptData → Known
+    client_unswitched session left = client_known None (Ok a) session left
 
-    pub client_begins : Sits (client_setup m d c) (version_of s.side) (written_message (KexInit (server_offer s)) ∷ []) phase.Exchange false (client_view [] c.plan)
+    abbrev pub client_view : List ℕ → List AttemptData → Known
+    client_view session left = client_known c.side.ignored_limit (Ok a) session left
+
+    pub client_begins : Sits (client_setup m d c) (version_of s.side) (written_message (KexInit (server_offer s)) ∷ []) phase.Exchange false (client_unswitched [] c.plan)
     client_begins =
-        subst (λ (r : Result AlgorithmsData NoCommon). Sits (client_setup m d c) (version_of s.side) (written_message (KexInit (server_offer s)) ∷ []) phase.Exchange false (client_known r [] c.plan))
+        subst (λ (r : Result AlgorithmsData NoCommon). Sits (client_setup m d c) (version_of s.side) (written_message (KexInit (server_offer s)) ∷ []) phase.Exchange false (client_known None r [] c.plan))
         chosen (begins (client_setup m d c) (version_of s.side) (written_message (KexInit (server_offer s))) (server_offer s) (offers.server Mpint))
 
     abbrev pub reply_payload : List ℕ
@@ -245,31 +254,31 @@ module _ (m : SuiteData) (d : DecisionsData) (c : ClientData) (s : ServerData) (
     client_same OctetString = ap (λ (o : Option ResponseData). record (exchange_between m c s a) { server_share = (answer_or o).share; shared = (answer_or o).shared }) client_answer
     client_same Hybrid = ap (λ (o : Option ResponseData). record (exchange_between m c s a) { server_share = (answer_or o).share; shared = (answer_or o).shared }) client_answer
 
-    pub client_exchanges : Sits (client_setup m d c) (version_of s.side) (written_message (KexInit (server_offer s)) ∷ reply_payload ∷ []) phase.NewKeys false (client_view (session_between m c s a) c.plan)
+    pub client_exchanges : Sits (client_setup m d c) (version_of s.side) (written_message (KexInit (server_offer s)) ∷ reply_payload ∷ []) phase.NewKeys false (client_unswitched (session_between m c s a) c.plan)
     unfolding session_between
     client_exchanges =
-        subst (λ (x : ExchangeData). Sits (client_setup m d c) (version_of s.side) (written_message (KexInit (server_offer s)) ∷ reply_payload ∷ []) phase.NewKeys false (client_view (exchange_hash m a.kex x) c.plan))
-        (client_same (m.share_form a.kex)) (goes_exchanged (client_setup m d c) (version_of s.side) (written_message (KexInit (server_offer s)) ∷ []) reply_payload (client_view [] c.plan) reply_content
+        subst (λ (x : ExchangeData). Sits (client_setup m d c) (version_of s.side) (written_message (KexInit (server_offer s)) ∷ reply_payload ∷ []) phase.NewKeys false (client_unswitched (exchange_hash m a.kex x) c.plan))
+        (client_same (m.share_form a.kex)) (goes_exchanged (client_setup m d c) (version_of s.side) (written_message (KexInit (server_offer s)) ∷ []) reply_payload (client_unswitched [] c.plan) reply_content
         client_begins readable.reply (reply_number (m.share_form a.kex) (host_key_of_server m s a.host_key) (answer_of_server m c s a.kex).share (signature_of_server m c s a)))
 
     pub reply_begun : kind reply_payload ≡ 31
     reply_begun = kind_tells (m.share_form a.kex) reply_payload reply_content readable.reply ∙ reply_number (m.share_form a.kex) (host_key_of_server m s a.host_key) (answer_of_server m c s a.kex).share (signature_of_server m c s a)
 
-    pub client_hashed : exchange_received m Client (config_of_client c) (client_view [] c.plan) reply_payload ≡ exchange_between m c s a
+    pub client_hashed : exchange_received m Client (config_of_client c) (client_unswitched [] c.plan) reply_payload ≡ exchange_between m c s a
     client_hashed = ap (λ r. exchange_with m Client (config_of_client c) a (version_of s.side) (written_message (KexInit (server_offer s))) r) readable.reply ∙ client_same (m.share_form a.kex)
 
     -- what a KEXDH_REPLY is answered
     client_replied : reply_at (client_setup m d c) (version_of s.side) (written_message (KexInit (server_offer s)) ∷ []) reply_payload
-        ≡ trusted_by m d (client_view [] c.plan) (exchange_between m c s a) (signature_of_server m c s a) (Some (answer_of_server m c s a.kex))
+        ≡ trusted_by m d (client_unswitched [] c.plan) (exchange_between m c s a) (signature_of_server m c s a) (Some (answer_of_server m c s a.kex))
     unfolding reply_reply
     client_replied =
-        reads (client_setup m d c) (version_of s.side) (written_message (KexInit (server_offer s)) ∷ []) reply_payload phase.Exchange false (client_view [] c.plan) reply_content
-        client_begins readable.reply
-        (ap (λ (n : ℕ). line_by Client phase.Exchange (client_view [] c.plan).strict false (is_waiting (client_view [] c.plan).left) n) (reply_number (m.share_form a.kex) (host_key_of_server m s a.host_key) (answer_of_server m c s a.kex).share (signature_of_server m c s a))
-        ∙ leaving_line _ Client phase.Exchange (client_view [] c.plan).strict)
-        ∙ work_reply (client_setup m d c) (client_view [] c.plan) (m.share_form a.kex) (host_key_of_server m s a.host_key) (answer_of_server m c s a.kex).share (signature_of_server m c s a)
-        ∙ ap (λ (x : ExchangeData). trusted_by m d (client_view [] c.plan) x (signature_of_server m c s a) (answer_with m Client (config_of_client c) a (Ok reply_content))) (client_same (m.share_form a.kex))
-        ∙ ap (λ (o : Option ResponseData). trusted_by m d (client_view [] c.plan) (exchange_between m c s a) (signature_of_server m c s a) o)
+        reads (client_setup m d c) (version_of s.side) (written_message (KexInit (server_offer s)) ∷ []) reply_payload phase.Exchange false (client_unswitched [] c.plan) reply_content
+        (ap is_ignorable (reply_number (m.share_form a.kex) (host_key_of_server m s a.host_key) (answer_of_server m c s a.kex).share (signature_of_server m c s a))) client_begins readable.reply
+        (ap (λ (n : ℕ). line_by Client phase.Exchange (client_unswitched [] c.plan).strict false (is_waiting (client_unswitched [] c.plan).left) n) (reply_number (m.share_form a.kex) (host_key_of_server m s a.host_key) (answer_of_server m c s a.kex).share (signature_of_server m c s a))
+        ∙ leaving_line _ Client phase.Exchange (client_unswitched [] c.plan).strict)
+        ∙ work_reply (client_setup m d c) (client_unswitched [] c.plan) (m.share_form a.kex) (host_key_of_server m s a.host_key) (answer_of_server m c s a.kex).share (signature_of_server m c s a)
+        ∙ ap (λ (x : ExchangeData). trusted_by m d (client_unswitched [] c.plan) x (signature_of_server m c s a) (answer_with m Client (config_of_client c) a (Ok reply_content))) (client_same (m.share_form a.kex))
+        ∙ ap (λ (o : Option ResponseData). trusted_by m d (client_unswitched [] c.plan) (exchange_between m c s a) (signature_of_server m c s a) o)
         (reply_answer m Client (config_of_client c) a (m.share_form a.kex) (host_key_of_server m s a.host_key) (answer_of_server m c s a.kex).share (signature_of_server m c s a) ∙ client_answer)
 
     pub client_trusts : d.host_key a.host_key (host_key_of_server m s a.host_key) ≡ true
@@ -277,18 +286,18 @@ module _ (m : SuiteData) (d : DecisionsData) (c : ClientData) (s : ServerData) (
     unfolding session_between
     client_trusts decided_yes =
         client_replied
-        ∙ ap (λ (b : Bool). if b then signed_by m (client_view [] c.plan) (exchange_between m c s a) (signature_of_server m c s a) (Some (answer_of_server m c s a.kex)) else fails fault.HostKey) decided_yes
+        ∙ ap (λ (b : Bool). if b then signed_by m (client_unswitched [] c.plan) (exchange_between m c s a) (signature_of_server m c s a) (Some (answer_of_server m c s a.kex)) else fails fault.HostKey) decided_yes
         ∙ ap (λ (b : Bool). if b then goes (written_message NewKeys ∷ written_message (ServiceRequest userauth) ∷ []) else fails fault.Signature) (understood.host_key a chosen decided_yes (session_between m c s a))
 
     pub client_refuses : d.host_key a.host_key (host_key_of_server m s a.host_key) ≡ false
         → reply_at (client_setup m d c) (version_of s.side) (written_message (KexInit (server_offer s)) ∷ []) reply_payload ≡ fails fault.HostKey
     client_refuses decided_no =
         client_replied
-        ∙ ap (λ (b : Bool). if b then signed_by m (client_view [] c.plan) (exchange_between m c s a) (signature_of_server m c s a) (Some (answer_of_server m c s a.kex)) else fails fault.HostKey) decided_no
+        ∙ ap (λ (b : Bool). if b then signed_by m (client_unswitched [] c.plan) (exchange_between m c s a) (signature_of_server m c s a) (Some (answer_of_server m c s a.kex)) else fails fault.HostKey) decided_no
 
     -- the server
-    abbrev pub server_known : Result AlgorithmsData NoCommon → List ℕ → ℕ → ReachedData → Known
-    server_known r session request reached = record {
+    abbrev pub server_known : Option ℕ → Result AlgorithmsData NoCommon → List ℕ → ℕ → ReachedData → Known
+    server_known allowance r session request reached = record {
       version = version_of c.side;
       kexinit = written_message (KexInit (client_offer c));
       algorithms = chosen_or r;
@@ -299,14 +308,19 @@ module _ (m : SuiteData) (d : DecisionsData) (c : ClientData) (s : ServerData) (
       reached = reached;
       strict = is_strict s.side.strict Server (client_offer c);
       first = false;
+      allowance = allowance;
     }
 
-    abbrev pub server_view : List ℕ → ℕ → ReachedData → Known
-    server_view session request reached = server_known (Ok a) session request reached
+    -- up to NEWKEYS, and after it
+    abbrev pub server_unswitched : List ℕ → ℕ → ReachedData → Known
+    server_unswitched session request reached = server_known None (Ok a) session request reached
 
-    pub server_begins : Sits (server_setup m d s) (version_of c.side) (written_message (KexInit (client_offer c)) ∷ []) phase.Exchange (c.guess && not (is_right_guess (client_offer c) (server_offer s))) (server_view [] 1 nothing_reached)
+    abbrev pub server_view : List ℕ → ℕ → ReachedData → Known
+    server_view session request reached = server_known s.side.ignored_limit (Ok a) session request reached
+
+    pub server_begins : Sits (server_setup m d s) (version_of c.side) (written_message (KexInit (client_offer c)) ∷ []) phase.Exchange (c.guess && not (is_right_guess (client_offer c) (server_offer s))) (server_unswitched [] 1 nothing_reached)
     server_begins =
-        subst (λ (r : Result AlgorithmsData NoCommon). Sits (server_setup m d s) (version_of c.side) (written_message (KexInit (client_offer c)) ∷ []) phase.Exchange (c.guess && not (is_right_guess (client_offer c) (server_offer s))) (server_known r [] 1 nothing_reached))
+        subst (λ (r : Result AlgorithmsData NoCommon). Sits (server_setup m d s) (version_of c.side) (written_message (KexInit (client_offer c)) ∷ []) phase.Exchange (c.guess && not (is_right_guess (client_offer c) (server_offer s))) (server_known None r [] 1 nothing_reached))
         chosen (begins (server_setup m d s) (version_of c.side) (written_message (KexInit (client_offer c))) (client_offer c) (offers.client Mpint))
 
     abbrev pub init_payload : List ℕ
@@ -318,35 +332,49 @@ module _ (m : SuiteData) (d : DecisionsData) (c : ClientData) (s : ServerData) (
     server_same OctetString = refl
     server_same Hybrid = refl
 
-    pub server_exchanges : (before : Units) → Sits (server_setup m d s) (version_of c.side) before phase.Exchange false (server_view [] 1 nothing_reached)
-        → Sits (server_setup m d s) (version_of c.side) (before ++ init_payload ∷ []) phase.NewKeys false (server_view (session_between m c s a) 1 nothing_reached)
+    pub server_exchanges : (before : Units) → Sits (server_setup m d s) (version_of c.side) before phase.Exchange false (server_unswitched [] 1 nothing_reached)
+        → Sits (server_setup m d s) (version_of c.side) (before ++ init_payload ∷ []) phase.NewKeys false (server_unswitched (session_between m c s a) 1 nothing_reached)
     unfolding session_between
     server_exchanges before sits =
-        subst (λ (x : ExchangeData). Sits (server_setup m d s) (version_of c.side) (before ++ init_payload ∷ []) phase.NewKeys false (server_view (exchange_hash m a.kex x) 1 nothing_reached)) (server_same (m.share_form a.kex))
-        (goes_exchanged (server_setup m d s) (version_of c.side) before init_payload (server_view [] 1 nothing_reached) (init_in (m.share_form a.kex) (m.share a.kex c.side.random)) sits readable.init (init_number (m.share_form a.kex) (m.share a.kex c.side.random)))
+        subst (λ (x : ExchangeData). Sits (server_setup m d s) (version_of c.side) (before ++ init_payload ∷ []) phase.NewKeys false (server_unswitched (exchange_hash m a.kex x) 1 nothing_reached)) (server_same (m.share_form a.kex))
+        (goes_exchanged (server_setup m d s) (version_of c.side) before init_payload (server_unswitched [] 1 nothing_reached) (init_in (m.share_form a.kex) (m.share a.kex c.side.random)) sits readable.init (init_number (m.share_form a.kex) (m.share a.kex c.side.random)))
 
     pub init_begun : kind init_payload ≡ 30
     init_begun = init_kind m (config_of_client c) a.kex
 
-    pub server_hashed : exchange_received m Server (config_of_server s) (server_view [] 1 nothing_reached) init_payload ≡ exchange_between m c s a
+    pub server_hashed : exchange_received m Server (config_of_server s) (server_unswitched [] 1 nothing_reached) init_payload ≡ exchange_between m c s a
     server_hashed = ap (λ r. exchange_with m Server (config_of_server s) a (version_of c.side) (written_message (KexInit (client_offer c))) r) readable.init ∙ server_same (m.share_form a.kex)
 
-    pub server_answers : (before : Units) → Sits (server_setup m d s) (version_of c.side) before phase.Exchange false (server_view [] 1 nothing_reached)
+    -- a client doesn't ask for extensions, so none are told
+    marker_unasking : (strict : Bool) → is_in (own_marker Client strict) (codes "ext-info-c") ≡ false
+    marker_unasking true = refl
+    marker_unasking false = refl
+
+    none_told : told_by (config_of_server s) (server_unswitched [] 1 nothing_reached) ≡ []
+    none_told =
+        let asks : Bool = asks_for_extensions (written_message (KexInit (client_offer c))) in
+        let marked : is_in (client_offer c).kex_algorithms (codes "ext-info-c") ≡ false =
+        list_any-append (λ own. bytes_eq (codes "ext-info-c") own) c.side.kex_algorithms (own_marker Client c.side.strict) ∙ rw (sound.client_unasking, marker_unasking c.side.strict) refl in
+        sym (told_unasked s.signature_algorithms asks asks refl (ap (λ r. asks_by (offer_by r)) (offers.client Mpint) ∙ marked))
+
+    pub server_answers : (before : Units) → Sits (server_setup m d s) (version_of c.side) before phase.Exchange false (server_unswitched [] 1 nothing_reached)
         → reply_at (server_setup m d s) (version_of c.side) before init_payload ≡ goes (reply_payload ∷ written_message NewKeys ∷ [])
     unfolding init_reply session_between
     server_answers before sits =
-        reads (server_setup m d s) (version_of c.side) before init_payload phase.Exchange false (server_view [] 1 nothing_reached) (init_in (m.share_form a.kex) (m.share a.kex c.side.random)) sits readable.init
-        (ap (λ (n : ℕ). line_by Server phase.Exchange (server_view [] 1 nothing_reached).strict false (is_waiting (server_view [] 1 nothing_reached).left) n) (init_number (m.share_form a.kex) (m.share a.kex c.side.random)) ∙ leaving_line _ Server phase.Exchange (server_view [] 1 nothing_reached).strict)
-        ∙ work_init (server_setup m d s) (server_view [] 1 nothing_reached) (m.share_form a.kex) (m.share a.kex c.side.random)
-        ∙ ap (λ (x : ExchangeData). answered_by m (config_of_server s) (server_view [] 1 nothing_reached) x (answer_with m Server (config_of_server s) a (Ok (init_in (m.share_form a.kex) (m.share a.kex c.side.random))))) (server_same (m.share_form a.kex))
-        ∙ ap (λ (o : Option ResponseData). answered_by m (config_of_server s) (server_view [] 1 nothing_reached) (exchange_between m c s a) o) (init_answer m Server (config_of_server s) a (m.share_form a.kex) (m.share a.kex c.side.random) ∙ responded)
+        reads (server_setup m d s) (version_of c.side) before init_payload phase.Exchange false (server_unswitched [] 1 nothing_reached) (init_in (m.share_form a.kex) (m.share a.kex c.side.random))
+        (ap is_ignorable (init_number (m.share_form a.kex) (m.share a.kex c.side.random))) sits readable.init
+        (ap (λ (n : ℕ). line_by Server phase.Exchange (server_unswitched [] 1 nothing_reached).strict false (is_waiting (server_unswitched [] 1 nothing_reached).left) n) (init_number (m.share_form a.kex) (m.share a.kex c.side.random)) ∙ leaving_line _ Server phase.Exchange (server_unswitched [] 1 nothing_reached).strict)
+        ∙ work_init (server_setup m d s) (server_unswitched [] 1 nothing_reached) (m.share_form a.kex) (m.share a.kex c.side.random)
+        ∙ ap (λ (x : ExchangeData). answered_by m (config_of_server s) (server_unswitched [] 1 nothing_reached) x (answer_with m Server (config_of_server s) a (Ok (init_in (m.share_form a.kex) (m.share a.kex c.side.random))))) (server_same (m.share_form a.kex))
+        ∙ ap (λ (o : Option ResponseData). answered_by m (config_of_server s) (server_unswitched [] 1 nothing_reached) (exchange_between m c s a) o) (init_answer m Server (config_of_server s) a (m.share_form a.kex) (m.share a.kex c.side.random) ∙ responded)
+        ∙ ap (λ (told : Units). goes (reply_payload ∷ written_message NewKeys ∷ told)) none_told
 
     -- a wrong guess
-    pub server_drops : (payload : List ℕ) → kind payload ≡ 30 → (before : Units) → Sits (server_setup m d s) (version_of c.side) before phase.Exchange true (server_view [] 1 nothing_reached)
-        → (reply_at (server_setup m d s) (version_of c.side) before payload ≡ goes []) × Sits (server_setup m d s) (version_of c.side) (before ++ payload ∷ []) phase.Exchange false (server_view [] 1 nothing_reached)
+    pub server_drops : (payload : List ℕ) → kind payload ≡ 30 → (before : Units) → Sits (server_setup m d s) (version_of c.side) before phase.Exchange true (server_unswitched [] 1 nothing_reached)
+        → (reply_at (server_setup m d s) (version_of c.side) before payload ≡ goes []) × Sits (server_setup m d s) (version_of c.side) (before ++ payload ∷ []) phase.Exchange false (server_unswitched [] 1 nothing_reached)
     server_drops payload is before sits = (
-      drops (server_setup m d s) (version_of c.side) before payload phase.Exchange true (server_view [] 1 nothing_reached) sits (ap (λ (n : ℕ). line_by Server phase.Exchange (server_view [] 1 nothing_reached).strict true (is_waiting (server_view [] 1 nothing_reached).left) n) is ∙ drops_line _ (server_view [] 1 nothing_reached).strict),
-      goes_dropped (server_setup m d s) (version_of c.side) before payload phase.Exchange (server_view [] 1 nothing_reached) sits (ap (λ (n : ℕ). n == 1) is),
+      drops (server_setup m d s) (version_of c.side) before payload phase.Exchange true (server_unswitched [] 1 nothing_reached) sits (ap (λ (n : ℕ). line_by Server phase.Exchange (server_unswitched [] 1 nothing_reached).strict true (is_waiting (server_unswitched [] 1 nothing_reached).left) n) is ∙ drops_line _ (server_unswitched [] 1 nothing_reached).strict),
+      goes_dropped (server_setup m d s) (version_of c.side) before payload phase.Exchange (server_unswitched [] 1 nothing_reached) sits (ap (λ (n : ℕ). n == 1) is),
     )
 
     -- AUTHENTICATION: the client
@@ -355,7 +383,7 @@ module _ (m : SuiteData) (d : DecisionsData) (c : ClientData) (s : ServerData) (
         × Sits (client_setup m d c) (version_of s.side) (before ++ written_message (ServiceAccept userauth) ∷ []) phase.Auth false (client_view session plan)
     unfolding work
     client_accepted before session plan sits = (
-      reads (client_setup m d c) (version_of s.side) before (written_message (ServiceAccept userauth)) phase.Service false (client_view session plan) (ServiceAccept userauth) sits (accept_read (m.share_form a.kex))
+      reads (client_setup m d c) (version_of s.side) before (written_message (ServiceAccept userauth)) phase.Service false (client_view session plan) (ServiceAccept userauth) refl sits (accept_read (m.share_form a.kex))
           (leaving_line _ Client phase.Service (client_view session plan).strict),
       goes_leaving (client_setup m d c) (version_of s.side) before (written_message (ServiceAccept userauth)) phase.Service (client_view session plan) (ServiceAccept userauth) sits refl (accept_read Mpint) refl,
     )
@@ -365,9 +393,9 @@ module _ (m : SuiteData) (d : DecisionsData) (c : ClientData) (s : ServerData) (
         × Sits (client_setup m d c) (version_of s.side) (before ++ written_message (UserauthBanner text []) ∷ []) phase.Auth false (client_view session plan)
     unfolding work
     client_greeted before session text plan has sits = (
-      reads (client_setup m d c) (version_of s.side) before (written_message (UserauthBanner text [])) phase.Auth false (client_view session plan) (UserauthBanner text []) sits (readable.banner text has (m.share_form a.kex))
+      reads (client_setup m d c) (version_of s.side) before (written_message (UserauthBanner text [])) phase.Auth false (client_view session plan) (UserauthBanner text []) refl sits (readable.banner text has (m.share_form a.kex))
           (auth_line _ (client_view session plan).strict 53 (inr refl)),
-      goes_staying (client_setup m d c) (version_of s.side) before (written_message (UserauthBanner text [])) phase.Auth (client_view session plan) (UserauthBanner text []) sits (readable.banner text has Mpint) stays_53,
+      goes_staying (client_setup m d c) (version_of s.side) before (written_message (UserauthBanner text [])) phase.Auth (client_view session plan) (UserauthBanner text []) refl sits (readable.banner text has Mpint) stays_53,
     )
 
     pub client_failed : (partial : Bool) → ReadsAgain (UserauthFailure s.methods partial) → (before : Units) (session : List ℕ) (plan : List AttemptData)
@@ -376,9 +404,9 @@ module _ (m : SuiteData) (d : DecisionsData) (c : ClientData) (s : ServerData) (
         × Sits (client_setup m d c) (version_of s.side) (before ++ written_message (UserauthFailure s.methods partial) ∷ []) phase.Auth false (client_view session (next_after s.methods plan))
     unfolding work
     client_failed partial read before session plan sits = (
-      reads (client_setup m d c) (version_of s.side) before (written_message (UserauthFailure s.methods partial)) phase.Auth false (client_view session plan) (UserauthFailure s.methods partial) sits (read (m.share_form a.kex))
+      reads (client_setup m d c) (version_of s.side) before (written_message (UserauthFailure s.methods partial)) phase.Auth false (client_view session plan) (UserauthFailure s.methods partial) refl sits (read (m.share_form a.kex))
           (auth_line _ (client_view session plan).strict 51 (inl refl)),
-      goes_staying (client_setup m d c) (version_of s.side) before (written_message (UserauthFailure s.methods partial)) phase.Auth (client_view session plan) (UserauthFailure s.methods partial) sits (read Mpint) stays_51,
+      goes_staying (client_setup m d c) (version_of s.side) before (written_message (UserauthFailure s.methods partial)) phase.Auth (client_view session plan) (UserauthFailure s.methods partial) refl sits (read Mpint) stays_51,
     )
 
     -- PK_OK to a query
@@ -392,10 +420,10 @@ module _ (m : SuiteData) (d : DecisionsData) (c : ClientData) (s : ServerData) (
     client_confirmed user service algorithm secret later read before session sits =
         let x : AttemptData = record { user = user; service = service; proving = ByKey algorithm secret true } in
         let y : AttemptData = record { user = user; service = service; proving = ByKey algorithm secret false } in (
-          reads (client_setup m d c) (version_of s.side) before (written_message (UserauthPkOk algorithm (m.blob algorithm secret))) phase.Auth false (client_view session (x ∷ later)) (UserauthPkOk algorithm (m.blob algorithm secret)) sits (read (m.share_form a.kex))
+          reads (client_setup m d c) (version_of s.side) before (written_message (UserauthPkOk algorithm (m.blob algorithm secret))) phase.Auth false (client_view session (x ∷ later)) (UserauthPkOk algorithm (m.blob algorithm secret)) refl sits (read (m.share_form a.kex))
               (confirms_line (client_view session (x ∷ later)).strict)
               ∙ ap (λ (b : Bool). if b then goes (request_of m session y ∷ []) else fails (fault.Unexpected 60)) (and_from (bytes_eq algorithm algorithm) (bytes_eq (m.blob algorithm secret) (m.blob algorithm secret)) (bytes_self algorithm) (bytes_self (m.blob algorithm secret))),
-          goes_staying (client_setup m d c) (version_of s.side) before (written_message (UserauthPkOk algorithm (m.blob algorithm secret))) phase.Auth (client_view session (x ∷ later)) (UserauthPkOk algorithm (m.blob algorithm secret)) sits (read Mpint) stays_60,
+          goes_staying (client_setup m d c) (version_of s.side) before (written_message (UserauthPkOk algorithm (m.blob algorithm secret))) phase.Auth (client_view session (x ∷ later)) (UserauthPkOk algorithm (m.blob algorithm secret)) refl sits (read Mpint) stays_60,
         )
 
     pub client_succeeds : (before : Units) (session : List ℕ) (r : AttemptData) (later : List AttemptData) → Sits (client_setup m d c) (version_of s.side) before phase.Auth false (client_view session (r ∷ later))
@@ -403,7 +431,7 @@ module _ (m : SuiteData) (d : DecisionsData) (c : ClientData) (s : ServerData) (
         ≡ record { answers = []; end = Authenticated (record { algorithms = a; strict = is_strict c.side.strict Client (server_offer s); session = session; user = r.user; service = r.service }) }
     unfolding work
     client_succeeds before session r later sits =
-        reads (client_setup m d c) (version_of s.side) before (written_message UserauthSuccess) phase.Auth false (client_view session (r ∷ later)) UserauthSuccess sits (success_read (m.share_form a.kex))
+        reads (client_setup m d c) (version_of s.side) before (written_message UserauthSuccess) phase.Auth false (client_view session (r ∷ later)) UserauthSuccess refl sits (success_read (m.share_form a.kex))
         (leaving_line _ Client phase.Auth (client_view session (r ∷ later)).strict)
 
     -- the server
@@ -412,7 +440,7 @@ module _ (m : SuiteData) (d : DecisionsData) (c : ClientData) (s : ServerData) (
         × Sits (server_setup m d s) (version_of c.side) (before ++ written_message (ServiceRequest userauth) ∷ []) phase.Auth false (server_view session n g)
     unfolding work
     server_accepts before session n g sits = (
-      reads (server_setup m d s) (version_of c.side) before (written_message (ServiceRequest userauth)) phase.Service false (server_view session n g) (ServiceRequest userauth) sits (service_read (m.share_form a.kex))
+      reads (server_setup m d s) (version_of c.side) before (written_message (ServiceRequest userauth)) phase.Service false (server_view session n g) (ServiceRequest userauth) refl sits (service_read (m.share_form a.kex))
           (leaving_line _ Server phase.Service (server_view session n g).strict),
       goes_leaving (server_setup m d s) (version_of c.side) before (written_message (ServiceRequest userauth)) phase.Service (server_view session n g) (ServiceRequest userauth) sits refl (service_read Mpint) refl,
     )
@@ -426,7 +454,7 @@ module _ (m : SuiteData) (d : DecisionsData) (c : ClientData) (s : ServerData) (
         (is_successful_at m d (config_of_server s) (session_between m c s a) n r.user r.service (method_by m (session_between m c s a) r.user r.service r.proving)))))
     unfolding work
     server_asked_for before n i g r at sits = (
-      reads (server_setup m d s) (version_of c.side) before (request_of m (session_between m c s a) r) phase.Auth false (server_view (session_between m c s a) n g) (UserauthRequest r.user r.service (method_by m (session_between m c s a) r.user r.service r.proving))
+      reads (server_setup m d s) (version_of c.side) before (request_of m (session_between m c s a) r) phase.Auth false (server_view (session_between m c s a) n g) (UserauthRequest r.user r.service (method_by m (session_between m c s a) r.user r.service r.proving)) refl
           sits (readable.requests i r at (m.share_form a.kex)) (leaving_line _ Server phase.Auth (server_view (session_between m c s a) n g).strict),
       goes_leaving (server_setup m d s) (version_of c.side) before (request_of m (session_between m c s a) r) phase.Auth (server_view (session_between m c s a) n g) (UserauthRequest r.user r.service (method_by m (session_between m c s a) r.user r.service r.proving))
           sits refl (readable.requests i r at Mpint) refl,

@@ -142,8 +142,8 @@ module _ (m : SuiteData) (d : DecisionsData) (s : ServerData) (made : List Attem
       → proved ≡ is_successful m d s (length (made ++ x ∷ []) + 1) (after_query x)
   successful_itself requests proved counted e = e ∙ (ap (λ (n : ℕ). is_proved m d s (n + 1) x) counted ∙ by (length (made ++ x ∷ []) + 1) x.proving)
     where
-      by : (n : ℕ) (p : CredentialData) → (is_usable s.methods p && d.user n x.user x.service (proved_by m p))
-          ≡ (not (asks (unasked p)) && (is_usable s.methods (unasked p) && d.user n x.user x.service (proved_by m (unasked p))))
+      by : (n : ℕ) (p : CredentialData) → (is_usable m s.methods p && d.user n x.user x.service (proved_by m p))
+          ≡ (not (asks (unasked p)) && (is_usable m s.methods (unasked p) && d.user n x.user x.service (proved_by m (unasked p))))
       by n ByNothing = refl
       by n (ByPassword password) = refl
       by n (ByKey algorithm secret ask) = refl

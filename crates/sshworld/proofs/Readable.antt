@@ -1,6 +1,6 @@
 -- What is read as it was written, and what was accepted of two configs.
 
-use Rattle.std.specs.Prelude.{◌≡◌, ◌≤◌, ℕ, true, false, nat_le, List, [], length, take, Some, Ok, slice_get}
+use Rattle.std.specs.Prelude.{◌≡◌, ◌≤◌, ℕ, true, false, nat_le, List, [], codes, length, take, Some, Ok, slice_get}
 use Rattle.std.specs.List.{AllByRecursion}
 use Rattle.sshwire.specs.declared.share_form.ShareForm.{ShareForm}
 use Rattle.sshwire.specs.TypeReadings.{is_name}
@@ -41,6 +41,7 @@ HasShortBlob m (ByKey algorithm secret ask) = nat_le (length (m.blob algorithm s
 -- what was accepted of two configs
 pub record AreSound (c : ClientData) (s : ServerData) : Type 0 where
   pub client_unmarked : is_in c.side.kex_algorithms (strict_marker Client) ≡ false
+  pub client_unasking : is_in c.side.kex_algorithms (codes "ext-info-c") ≡ false
   pub server_unmarked : is_in s.side.kex_algorithms (strict_marker Server) ≡ false
   pub named : AllByRecursion (λ (a : AttemptData). IsTestedName a.proving) c.plan
   pub required : AllByRecursion IsListed s.required

@@ -31,7 +31,7 @@ use Rattle.sshworld.specs.Wordings.{wording_with}
 use Rattle.sshworld.proofs.CountLemmas.{counted_offered}
 use Rattle.sshworld.proofs.CourseLemmas.{all_sent, first_sent}
 use Rattle.sshworld.proofs.JudgedLemmas.{some_received}
-use Rattle.sshworld.proofs.MessageLemmas.{closed, init_kind, nine_read, server_accepts, server_answers, server_begins, server_drops, server_exchanges, server_first, server_view, switched, switches}
+use Rattle.sshworld.proofs.MessageLemmas.{closed, init_kind, nine_read, server_accepts, server_answers, server_begins, server_drops, server_exchanges, server_first, server_unswitched, switched, switches}
 use Rattle.sshworld.proofs.PartLemmas.{answers_from, as_last, as_open, at_each, from}
 use Rattle.sshworld.proofs.Readable.{AreOffersRead, AreSound, IsRead}
 use Rattle.sshworld.proofs.SentLemmas.{asks, client_sends}
@@ -75,7 +75,7 @@ module _ (m : SuiteData) (d : DecisionsData) (c : ClientData) (s : ServerData) (
     v = verdict m d c s
 
     abbrev pub sits : Units → Phase → Bool → List ℕ → Type 0
-    sits before q due session = Sits (server_setup m d s) (version_of c.side) before q due (server_view m d c s understood sound offers a chosen readable session 1 nothing_reached)
+    sits before q due session = Sits (server_setup m d s) (version_of c.side) before q due (server_unswitched m d c s understood sound offers a chosen readable session 1 nothing_reached)
 
     pub begun : (b : Bool) → (c.guess && not (is_right_guess (client_offer c) (server_offer s))) ≡ b → sits (w.client_offer ∷ []) phase.Exchange b []
     begun b e = subst (λ (due : Bool). sits (w.client_offer ∷ []) phase.Exchange due []) e (server_begins m d c s understood sound offers a chosen readable)

@@ -132,7 +132,7 @@ module _ (m : SuiteData) (d : DecisionsData) (c : ClientData) (s : ServerData) (
       let reply : reply_at (server_setup m d s) (version_of c.side) before (request_of m (session_between m c s a) x) ≡ how_reply m d c s a (take j (offered m d s c.plan)) x (ends_by m d s (take j (offered m d s c.plan)) x) =
       (server_asked_for m d c s understood sound offers a chosen readable before (j + 1) j (reached j) x get here).0
       ∙ ap (λ (n : ℕ). request_reply m d (config_of_server s) (server_view m d c s understood sound offers a chosen readable (session_between m c s a) (n + 1) (reached j)) x.user x.service (method_by m (session_between m c s a) x.user x.service x.proving)) (sym made_is)
-      ∙ judged m d c s sound a (session_between m c s a) (version_of c.side) _ _ [] _ false made x (named_at j x get) (signs_at j x get) (readable.short j x get) (omega (arith, made_is, granted m d c s sound.tries most j more)) refl refl in
+      ∙ judged m d c s sound a (session_between m c s a) (version_of c.side) _ _ [] _ false s.side.ignored_limit made x (named_at j x get) (signs_at j x get) (readable.short j x get) (omega (arith, made_is, granted m d c s sound.tries most j more)) refl refl in
       let b = brings_at m d c s j x get in
       elim (dec_lt (j + 1) v.requests) [
         | yes less ↦

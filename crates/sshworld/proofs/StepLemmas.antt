@@ -9,6 +9,7 @@ use Rattle.sshmsg.specs.Messages.{message_in}
 use Rattle.sshmsg.specs.Numbers.{kind, number_of}
 use Rattle.sshmsg.proofs.NumberLemmas.{kind_tells, reads_alike}
 use Rattle.sshneg.specs.declared.side.Side.{Side}
+use Rattle.sshneg.specs.declared.side.Side.TheVariants.{Client, Server}
 use Rattle.sshneg.specs.ChoiceReadings.{choice}
 use Rattle.sshneg.specs.ExchangeEnd.{client_of, exchange_hash, offer_by, server_of}
 use Rattle.sshneg.specs.Markers.{IsRightGuess, first_name, methods, same_name}
@@ -20,6 +21,7 @@ use Rattle.sshcore.specs.declared.table.Line.{Line}
 use Rattle.sshcore.specs.declared.table.Line.TheVariants as line
 use Rattle.sshcore.specs.declared.table.Phase.{Phase}
 use Rattle.sshcore.specs.declared.table.Phase.TheVariants as phase
+use Rattle.sshcore.specs.IgnoredLimit.{cost, less}
 use Rattle.sshcore.specs.Before.{strict_towards, wrong_guess}
 use Rattle.sshcore.specs.Counting.{number_in}
 use Rattle.sshcore.specs.EndData.{fails, goes}
@@ -33,8 +35,9 @@ use Rattle.sshcore.specs.Reached.{reached_after}
 use Rattle.sshcore.specs.Tries.{tried_by, tried_in}
 use Rattle.sshcore.specs.Replies.{line_reply, read_reply, reply_at}
 use Rattle.sshcore.specs.Standing.{LeavesNone, Sits, after_offer, after_payload, nothing_known}
-use Rattle.sshcore.specs.Table.{line_by}
+use Rattle.sshcore.specs.Table.{line_by, is_ignorable}
 use Rattle.sshcore.specs.Work.{chosen_reply, kexinit_reply, work}
+use Rattle.sshcore.proofs.IgnoredLimitLemmas.{always_allowed}
 use Rattle.sshcore.proofs.Below.{Below}
 use Rattle.sshcore.proofs.StandingLemmas as standing
 
@@ -67,7 +70,7 @@ right_complete client server r =
 pub below : Below
 below = record { numbers = kind_tells; alike = reads_alike; right = λ client server. (right_sound client server, right_complete client server) }
 
--- what a message changes that is neither dropped nor the first KEXINIT nor the exchange message
+-- what a message changes that says something, and is neither dropped nor the first KEXINIT nor the exchange message
 abbrev pub left_by : List AttemptData → MessageData → List AttemptData
 left_by left content = if number_of content == 60 then confirmed left else next_after (listed_by (Ok content)) left
 
@@ -77,39 +80,63 @@ after_content m d party x content = record x {
   left = if is_answer (number_of content) then left_by x.left content else x.left;
   reached = if number_of content == 50 then reached_after x.reached (tried_by m d party x.session x.request (Ok content)) else x.reached;
   first = false;
+  allowance = if number_of content == 21 then party.ignored_limit else x.allowance;
 }
 
-after_read : (m : SuiteData) (d : DecisionsData) (party : ConfigData) (x : Known) (payload : List ℕ) (content : MessageData) → message_in Mpint payload ≡ Ok content
+after_read : (m : SuiteData) (d : DecisionsData) (party : ConfigData) (x : Known) (payload : List ℕ) (content : MessageData) → is_ignorable (number_of content) ≡ false → message_in Mpint payload ≡ Ok content
     → after_payload m d party x payload ≡ after_content m d party x content
 unfolding listed_in tried_in
-after_read m d party x payload content e =
+after_read m d party x payload content heeded e =
     ap (λ (n : ℕ). record x {
       request = if n == 50 then x.request + 1 else x.request;
       left = if is_answer n then (if n == 60 then confirmed x.left else next_after (listed_in payload) x.left) else x.left;
       reached = if n == 50 then reached_after x.reached (tried_in m d party x.session x.request payload) else x.reached;
       first = false;
+      allowance = if n == 21 then party.ignored_limit else if is_ignorable n then less x.allowance (cost payload) else x.allowance;
     }) (kind_tells Mpint payload content e)
     ∙ ap (λ r. record x {
       request = if number_of content == 50 then x.request + 1 else x.request;
       left = if is_answer (number_of content) then (if number_of content == 60 then confirmed x.left else next_after (listed_by r) x.left) else x.left;
       reached = if number_of content == 50 then reached_after x.reached (tried_by m d party x.session x.request r) else x.reached;
       first = false;
+      allowance = if number_of content == 21 then party.ignored_limit else if is_ignorable (number_of content) then less x.allowance (cost payload) else x.allowance;
     }) e
+    ∙ ap (λ (b : Bool). record x {
+      request = if number_of content == 50 then x.request + 1 else x.request;
+      left = if is_answer (number_of content) then left_by x.left content else x.left;
+      reached = if number_of content == 50 then reached_after x.reached (tried_by m d party x.session x.request (Ok content)) else x.reached;
+      first = false;
+      allowance = if number_of content == 21 then party.ignored_limit else if b then less x.allowance (cost payload) else x.allowance;
+    }) heeded
+
+-- what leaves a phase says something
+leaving_heeded : (role : Side) (p : Phase) (n : ℕ) → n ≡ leaving role p → is_ignorable n ≡ false
+leaving_heeded Client phase.KexInit n e = rw e refl
+leaving_heeded Client phase.Exchange n e = rw e refl
+leaving_heeded Client phase.NewKeys n e = rw e refl
+leaving_heeded Client phase.Service n e = rw e refl
+leaving_heeded Client phase.Auth n e = rw e refl
+leaving_heeded Server phase.KexInit n e = rw e refl
+leaving_heeded Server phase.Exchange n e = rw e refl
+leaving_heeded Server phase.NewKeys n e = rw e refl
+leaving_heeded Server phase.Service n e = rw e refl
+leaving_heeded Server phase.Auth n e = rw e refl
 
 first_line : (role : Side) (b waits : Bool) → line_by role phase.KexInit b false waits 20 ≡ line.Reads
 unfolding line_by
 first_line role b waits = refl
 
 module _ (setup : Setup) (version : List ℕ) where
-  -- a message that has a place is worked on
-  pub reads : (before : Units) (payload : List ℕ) (p : Phase) (guess : Bool) (x : Known) (content : MessageData) → Sits setup version before p guess x
+  -- a message that has a place and says something is worked on
+  pub reads : (before : Units) (payload : List ℕ) (p : Phase) (guess : Bool) (x : Known) (content : MessageData) → is_ignorable (number_of content) ≡ false → Sits setup version before p guess x
       → message_in x.shares payload ≡ Ok content → line_by setup.role p x.strict guess (is_waiting x.left) (number_of content) ≡ line.Reads
       → reply_at setup version before payload ≡ work setup x content
   unfolding line_reply
-  reads before payload p guess x content s e is =
+  reads before payload p guess x content heeded s e is =
       standing.replies setup version before payload p guess x s
       ∙ ap (λ (n : ℕ). line_reply setup x (number_in setup.role setup.config before) (line_by setup.role p x.strict guess (is_waiting x.left) n) payload) (kind_tells x.shares payload content e)
       ∙ ap (λ (l : Line). line_reply setup x (number_in setup.role setup.config before) l payload) is
+      ∙ always_allowed x payload (read_reply setup x (kind payload) (message_in x.shares payload)) (ap is_ignorable (kind_tells x.shares payload content e) ∙ heeded)
       ∙ ap (λ r. read_reply setup x (kind payload) r) e
 
   pub drops : (before : Units) (payload : List ℕ) (p : Phase) (guess : Bool) (x : Known) → Sits setup version before p guess x
@@ -128,7 +155,7 @@ module _ (setup : Setup) (version : List ℕ) where
       → reply_at setup version [] payload ≡ chosen_reply setup.suite setup.role setup.config peer (choice setup.suite (client_of setup.role setup.config.offer peer) (server_of setup.role setup.config.offer peer))
   unfolding work kexinit_reply
   replies_first payload peer e =
-      reads [] payload phase.KexInit false (nothing_known setup.config version) (KexInit peer) (standing.begins setup version) e (first_line setup.role false (is_waiting setup.config.plan))
+      reads [] payload phase.KexInit false (nothing_known setup.config version) (KexInit peer) refl (standing.begins setup version) e (first_line setup.role false (is_waiting setup.config.plan))
       ∙ ap (λ (b : Bool). if b then fails (fault.Strict 20) else chosen_reply setup.suite setup.role setup.config peer (choice setup.suite (client_of setup.role setup.config.offer peer) (server_of setup.role setup.config.offer peer))) (and_right (strict_towards setup.role setup.config.strict (Some peer)) false refl)
 
   -- the packet of a wrong guess changes nothing but that none is due any more
@@ -140,13 +167,13 @@ module _ (setup : Setup) (version : List ℕ) where
   pub goes_leaving : (before : Units) (payload : List ℕ) (p : Phase) (x : Known) (content : MessageData) → Sits setup version before p false x → past_exchange p ≡ true
       → message_in Mpint payload ≡ Ok content → number_of content ≡ leaving setup.role p → Sits setup version (before ++ payload ∷ []) (next_phase p) false (after_content setup.suite setup.decisions setup.config x content)
   goes_leaving before payload p x content s past e n =
-      subst (λ (k : Known). Sits setup version (before ++ payload ∷ []) (next_phase p) false k) (after_read setup.suite setup.decisions setup.config x payload content e)
+      subst (λ (k : Known). Sits setup version (before ++ payload ∷ []) (next_phase p) false k) (after_read setup.suite setup.decisions setup.config x payload content (leaving_heeded setup.role p (number_of content) n) e)
       (standing.leaves setup version before payload p x s past (kind_tells Mpint payload content e ∙ n))
 
-  pub goes_staying : (before : Units) (payload : List ℕ) (p : Phase) (x : Known) (content : MessageData) → Sits setup version before p false x
+  pub goes_staying : (before : Units) (payload : List ℕ) (p : Phase) (x : Known) (content : MessageData) → is_ignorable (number_of content) ≡ false → Sits setup version before p false x
       → message_in Mpint payload ≡ Ok content → LeavesNone setup.role (number_of content) → Sits setup version (before ++ payload ∷ []) p false (after_content setup.suite setup.decisions setup.config x content)
-  goes_staying before payload p x content s e l =
-      subst (λ (k : Known). Sits setup version (before ++ payload ∷ []) p false k) (after_read setup.suite setup.decisions setup.config x payload content e)
+  goes_staying before payload p x content heeded s e l =
+      subst (λ (k : Known). Sits setup version (before ++ payload ∷ []) p false k) (after_read setup.suite setup.decisions setup.config x payload content heeded e)
       (standing.stays setup version before payload p x s (subst (λ (n : ℕ). LeavesNone setup.role n) (sym (kind_tells Mpint payload content e)) l))
 
   -- the exchange message gives the session

@@ -18,7 +18,11 @@ use Rattle.sshworld.specs.Wordings.{answer_to}
 -- a suite, a client and a server of which only what stands here matters
 module _ (suite : SuiteData) (anyone : ClientData) (any : ServerData) where
   m : SuiteData
-  m = record suite { blob = λ algorithm secret. 66 ∷ secret }
+  m = record suite { blob = λ algorithm secret. 66 ∷ secret; can = λ algorithm. record { signature = true; encryption = false } }
+
+  -- and one that signs with nothing
+  unable : SuiteData
+  unable = record suite { blob = λ algorithm secret. 66 ∷ secret; can = λ algorithm. record { signature = false; encryption = false } }
 
   service : List ℕ
   service = codes "ssh-connection"
@@ -56,6 +60,11 @@ module _ (suite : SuiteData) (anyone : ClientData) (any : ServerData) where
   queries : (verdict m (denying 0) (client asking) (server both [] 6) ≡ record { requests = 2; how = Success itself }) × (verdict m (denying 1) (client asking) (server both [] 6) ≡ record { requests = 1; how = Exhausted }) × (verdict m (denying 2) (client asking) (server both [] 6) ≡ record { requests = 2; how = Exhausted }) × (verdict m (denying 0) (client asking) (server both [] 2) ≡ record { requests = 2; how = Success itself }) × (verdict m (denying 0) (client asking) (server both [] 1) ≡ record { requests = 1; how = Limit }) × (verdict m (denying 0) (client asking) (server (codes "password" ∷ []) [] 6) ≡ record { requests = 1; how = Exhausted })
   unfolding verdict m service knows denying attempt server both client asking itself
   queries = (refl, refl, refl, refl, refl, refl)
+
+  -- by an algorithm with which the suite doesn't sign no query is confirmed, and no request is successful
+  unsigned : (verdict unable (denying 0) (client asking) (server both [] 6) ≡ record { requests = 1; how = Exhausted }) × (verdict unable (denying 0) (client (itself ∷ [])) (server both [] 6) ≡ record { requests = 1; how = Exhausted })
+  unfolding verdict unable service knows denying attempt server both client asking itself
+  unsigned = (refl, refl)
 
   -- plans of more than one attempt
   al_password : AttemptData

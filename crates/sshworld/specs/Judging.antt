@@ -14,17 +14,19 @@ proved_by m ByNothing = NoProof
 proved_by m (ByPassword password) = PasswordProof password
 proved_by m (ByKey algorithm secret ask) = KeyProof algorithm (m.blob algorithm secret)
 
--- The method may be used: `none` always (RFC 4252 section 5.2), `password` and `publickey` where the server has them.
-abbrev pub is_usable : List (List ℕ) → CredentialData → Bool
-is_usable methods ByNothing = true
-is_usable methods (ByPassword password) = is_in methods (proving_name (ByPassword password))
-is_usable methods (ByKey algorithm secret ask) = is_in methods (proving_name (ByKey algorithm secret ask))
+-- The method may be used: `none` always (RFC 4252 section 5.2), `password` where the server has it, and `publickey` where the server
+-- has it and the suite signs with the algorithm (section 7).
+abbrev pub is_usable : SuiteData → List (List ℕ) → CredentialData → Bool
+is_usable m methods ByNothing = true
+is_usable m methods (ByPassword password) = is_in methods (proving_name (ByPassword password))
+is_usable m methods (ByKey algorithm secret ask) =
+    is_in methods (proving_name (ByKey algorithm secret ask)) && (m.can algorithm).signature
 
 -- Of request number j, counted from 1, the method may be used, and the server decides yes on what is proved of this user for this
 -- service; or, of a query, on the key that it asks about.
 abbrev pub is_proved : SuiteData → DecisionsData → ServerData → ℕ → AttemptData → Bool
 is_proved m d server j attempt =
-    is_usable server.methods attempt.proving && d.user j attempt.user attempt.service (proved_by m attempt.proving)
+    is_usable m server.methods attempt.proving && d.user j attempt.user attempt.service (proved_by m attempt.proving)
 
 -- The request is successful: it is so proved, and no query.
 abbrev pub is_successful : SuiteData → DecisionsData → ServerData → ℕ → AttemptData → Bool

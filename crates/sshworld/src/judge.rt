@@ -7,7 +7,7 @@ ghost use Rattle.sshneg.specs.ChoiceReadings.{is_in};
 ghost use Rattle.sshcore.specs.declared.config_parts.TheConstants.{PLAN_LIMIT};
 ghost use Rattle.sshcore.specs.ConfigParts as config_parts;
 ghost use Rattle.sshcore.specs.ConfigRules.{IsAttempt};
-ghost use Rattle.sshcore.specs.ConfigView.{attempt_data, credential_data};
+ghost use Rattle.sshcore.specs.ConfigView.{attempt_data};
 ghost use Rattle.sshworld.specs.JudgedView.{IsAfter, IsSoFar, ends_among, how_of};
 ghost use Rattle.sshworld.specs.Judging.{is_proved, is_usable, proved_by};
 ghost use Rattle.sshworld.specs.Offered.{requests_for};
@@ -126,21 +126,24 @@ fn is_proved<S: Suite, D: Decisions>(
     requires { IsAttempt (attempt_data attempt.now) }
     ensures { IfOk result (λ proved. proved ≡ is_proved (S.meaning suite.now) (D.policy decisions.now) server.now number (attempt_data attempt.now)) }
 {
-    if !is_usable(server, &attempt.credential) {
+    if !is_usable(server, suite, attempt) {
         return Ok(false);
     }
     decide(alloc, suite, decisions, number, attempt)
 }
 
 /// Whether a request that proves this may be accepted: `none` always, any other where the server lists
-/// its method.
-fn is_usable(server: &ServerConfig, credential: &Credential) -> bool
-    ensures { result ≡ is_usable server.now.methods (credential_data credential.now) }
+/// its method, and one by a key where the suite signs with the algorithm.
+fn is_usable<S: Suite>(server: &ServerConfig, suite: &S, attempt: &Attempt) -> bool
+    requires { IsAttempt (attempt_data attempt.now) }
+    ensures { result ≡ is_usable (S.meaning suite.now) server.now.methods (attempt_data attempt.now).proving }
 {
-    match credential {
+    match &attempt.credential {
         Credential::None => true,
         Credential::Password(_) => lists(server, "password"),
-        Credential::PublicKey { .. } => lists(server, "publickey"),
+        Credential::PublicKey { algorithm, .. } => {
+            lists(server, "publickey") && suite.can(algorithm).signature
+        }
     }
 }
 

@@ -264,10 +264,10 @@ impl<'a, S: Suite, D: Decisions> World<'a, S, D> {
     }
 
     /// What both sides hand over, the client's session first, where both ended authenticated; None otherwise.
-    /// Where the two ends understand each other the sessions match crosswise. Takes no memory.
+    /// Each is the session of an endpoint that has received and sent what its side has. Where the two ends understand each other the sessions match crosswise. Takes no memory.
     pub fn into_sessions(self) -> Option<(Session, Session)>
         ensures sessions { (a b : AgreedData) → self.entry.client.end ≡ Authenticated a → self.entry.server.end ≡ Authenticated b
-            → HandOver (AreUnderstoodIn S.meaning D.policy self.entry) self.entry.client_config self.entry.server_config a b result }
+            → HandOver S.meaning D.policy (AreUnderstoodIn S.meaning D.policy self.entry) self.entry a b result }
         ensures none { ((a b : AgreedData) → self.entry.client.end ≡ Authenticated a → self.entry.server.end ≢ Authenticated b) → result ≡ None }
     {
         session_law::<S, D>();

@@ -33,13 +33,13 @@ returns-clause-steps g c =
     let party = config_data c.args.config.now in
     let w = waiting_data c.args.waiting.now in
     let old = state_data c.args.state.now in
-    let new = state_data c.answer.new.self in
+    let new = state_data c.receive.new.self in
     let last = state_data c.turn_input.new.state in
-    let brings = subst (λ (l : List ℕ). HasForm m old → (packet : ℕ) → Brings (setup_with m (always c.args.allowed) role party) old new packet l c.new-sent.result.items c.answer.new.sent.items) c.deref.ensures.value c.in_ok-answer.ensures.brings in (
-      c.answer.new.sent.items,
+    let brings = subst (λ (l : List ℕ). HasForm m old → Brings (setup_with m (always c.args.allowed) role party) old new w.packet l c.new-sent.result.items c.receive.new.sent.items) c.deref.ensures.value c.in_ok-receive.ensures.brings in (
+      c.receive.new.sent.items,
       search rules,
-      subst (λ (l : List ℕ). AnswerSteps m role party c.args.allowed w c.args.input.now old c.turn_input.new.input last l c.answer.new.sent.items) c.new-sent.ensures.items
-          (answer_steps below streams m role party c.args.allowed w old new last c.new-sent.result.items c.answer.new.sent.items c.requires.asked.is_open
+      subst (λ (l : List ℕ). AnswerSteps m role party c.args.allowed w c.args.input.now old c.turn_input.new.input last l c.receive.new.sent.items) c.new-sent.ensures.items
+          (answer_steps below streams m role party c.args.allowed w old new last c.new-sent.result.items c.receive.new.sent.items c.requires.asked.is_open
           c.args.input.now c.turn_input.new.input c.requires.asked.asks brings c.turn_input.ensures.turned),
     )
 
@@ -52,8 +52,9 @@ returns-clause-keeps g c =
     let m = g.S.Suite.meaning c.args.suite.now in
     let role = role_of c.args.config.now in
     let party = config_data c.args.config.now in
+    let w = waiting_data c.args.waiting.now in
     let old = state_data c.args.state.now in
-    let new = state_data c.answer.new.self in
-    let brings = subst (λ (l : List ℕ). HasForm m old → (packet : ℕ) → Brings (setup_with m (always c.args.allowed) role party) old new packet l c.new-sent.result.items c.answer.new.sent.items) c.deref.ensures.value c.in_ok-answer.ensures.brings in
+    let new = state_data c.receive.new.self in
+    let brings = subst (λ (l : List ℕ). HasForm m old → Brings (setup_with m (always c.args.allowed) role party) old new w.packet l c.new-sent.result.items c.receive.new.sent.items) c.deref.ensures.value c.in_ok-receive.ensures.brings in
     fits_input m party old new (state_data c.turn_input.new.state) c.args.input.now c.turn_input.new.input c.turn_input.ensures.turned
-    (fits_after below (setup_with m (always c.args.allowed) role party) (waiting_data c.args.waiting.now).payload old new 0 c.new-sent.result.items c.answer.new.sent.items (λ fits. brings fits.form 0))
+    (fits_after below (setup_with m (always c.args.allowed) role party) w.payload old new w.packet c.new-sent.result.items c.receive.new.sent.items (λ fits. brings fits.form))

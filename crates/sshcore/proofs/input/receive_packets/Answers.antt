@@ -3,12 +3,12 @@ use Rattle.sshpacket.specs.Parse.{OfPacket, parse_packet}
 use Rattle.sshpacket.specs.PacketReaderData.{ParseAnswer, ReaderLeaves, last_used, packet_reader_data, protection_at}
 use Rattle.sshcore.specs.declared.input.Input.TheVariants as input
 use Rattle.sshcore.specs.EndpointConfig.{config_data, role_of, setup_of}
-use Rattle.sshcore.specs.EndData.{end_data}
+use Rattle.sshcore.specs.EndData.{by_input, end_data}
 use Rattle.sshcore.specs.Exchange.{keys_by}
 use Rattle.sshcore.specs.Inputs.{Steps}
 use Rattle.sshcore.specs.Replies.{fault_of}
 use Rattle.sshcore.specs.Standing.{exchange_received}
-use Rattle.sshcore.proofs.FeedLemmas.{failed_over, from_memory}
+use Rattle.sshcore.proofs.FeedLemmas.{by_packet, failed_over}
 use Rattle.sshcore.specs.StateData.{StateData, state_data}
 use Rattle.sshcore.proofs.Below.{Below}
 use Rattle.sshcore.proofs.HistoryLemmas.{Streams}
@@ -137,5 +137,5 @@ returns-in_ok-fail_packet-in-Err g c =
         subst (λ (n : ℕ). n ≤ length c.args.piece.now) (sym used_is) leaves.1,
       );
       reads = λ o. absurd (failed_over (fault_of (OfPacket c.in-Err.fault)) (end_data c.fail_packet.new.state.end) told.ends o);
-      kept = λ e. told.refused (from_memory c.in-Err.fault (sym told.ends ∙ e));
+      kept = ap by_input told.ends ∙ by_packet c.in-Err.fault told.refused;
     }

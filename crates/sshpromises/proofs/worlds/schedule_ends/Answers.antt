@@ -2,7 +2,7 @@ use Rattle.std.proofs.Common.{◌≡◌, ◌∙◌}
 use Rattle.sshworld.specs.Worlds.{HadMemory}
 use Rattle.sshworld.specs.WorldCourse.{AreUnderstoodIn}
 use Rattle.sshworld.specs.Outcome.{outcome}
-use Rattle.sshpromises.specs.Claims.{EndsWell}
+use Rattle.sshpromises.specs.Claims.{EndsWell, HasRun}
 use Rattle.sshpromises.proofs.OwnedLemmas.{once_always, once_ok, where_ok}
 use Rattle.sshpromises.proofs.WorldLemmas.{ends_well, new_had, understood_in}
 use Rattle.sshpromises.proofs.worlds.schedule_ends.Goals as goal
@@ -49,3 +49,18 @@ returns-clause-ends g c =
     (c.follows_law.ensures.understood (g.S.Suite.meaning c.args.suite.now) (g.D.Decisions.policy c.args.decisions.now) c.args.client.now c.args.server.now
     (g.met.S.AgreeingSuite.agrees c.args.suite.now) c.parts.ensures.accepted c.parts-2.ensures.accepted)
     (still (new_had g.S.Suite.meaning g.D.Decisions.policy c.in_ok-world.world e.start)) c.run-ran.ensures.holds.headline))
+
+pub returns-clause-ran : goal.returns-clause-ran
+returns-clause-ran g c =
+    let e = c.in_ok-world.ensures in
+    once_ok c.once.result (λ w. HasRun g.S.Suite.meaning g.D.Decisions.policy c.args.client.now c.args.server.now c.args.suite.now c.args.decisions.now c.args.schedule.now w)
+    tt c.run-ran.result c.run-ran.new.self c.once.ensures.value c.once.ensures.done
+    (where_ok c.run-ran.result c.run-ran.ensures.runs (λ runs. record {
+      begun = c.in_ok-world.world;
+      of_client = e.client_config;
+      of_server = e.server_config;
+      of_suite = e.suite;
+      of_decisions = e.decisions;
+      is_new = e.start;
+      runs = runs;
+    }))

@@ -1,4 +1,5 @@
 use Rattle.std.proofs.Common.{◌≡◌, ◌+◌, ◌≤◌, ◌-◌, length, take, drop, ◌++◌, refl, sym, ap, ◌∙◌, subst, arith}
+use Rattle.std.proofs.lemmas.Bool.{true≢false}
 use Rattle.std.proofs.lemmas.List.{length-drop}
 use Rattle.std.proofs.Math.Seq.{take-add}
 use Rattle.sshcore.specs.Asking.{AskingBreaks, AskingFed, IsReadyForBytes, asked_at, asking_end}
@@ -11,7 +12,7 @@ pub loop-used-init : goal.loop-used-init
 loop-used-init g c = record {
   fed = fed_none g.S.Suite.meaning c.args.self.now c.args.out.now.items;
   within = omega arith;
-  kept = λ e. e;
+  owned = λ e. refl;
   nothing = λ none. refl;
   stays = λ shut. (refl, refl, refl);
 }
@@ -34,7 +35,7 @@ loop-used-preserved g c =
           (fed_then m old mid new (take n piece) (take k (drop n piece)) c.args.out.now.items c.loop-used.out.items c.take.new.out.items c.loop-used.invariant.fed
           (subst (λ x. AskingFed m mid new (take k x) c.loop-used.out.items c.take.new.out.items) (tail_is n piece) c.in_ok-used.ensures.fed));
       within = omega arith;
-      kept = λ e. absurd (c.in_ok-used.ensures.kept e);
+      owned = λ e. absurd (true≢false (sym c.in_ok-used.ensures.kept ∙ e));
       nothing = λ none.
           let first : n ≡ 0 = omega (arith, none) in
           let second : k ≡ 0 = omega (arith, none) in

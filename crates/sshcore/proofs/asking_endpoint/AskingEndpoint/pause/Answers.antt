@@ -4,6 +4,7 @@ use Rattle.sshcore.specs.declared.draws.Draws.{Draws}
 use Rattle.sshcore.specs.EndpointParts.{config_of_client, config_of_server}
 use Rattle.sshcore.specs.Redrawn.{redrawn_client, redrawn_server}
 use Rattle.sshcore.specs.EndpointConfig.{config_data, role_of, setup_of}
+use Rattle.sshcore.specs.MadeWith.{configs_seen}
 use Rattle.sshcore.specs.Paused.{PausedData, kept_with}
 use Rattle.sshcore.specs.StateData.{state_data}
 use Rattle.sshcore.specs.WaitingView.{waiting_of}
@@ -16,6 +17,8 @@ returns-clause-pauses g c =
     let old = c.self.inside.state in
     rw (← c.self.view_is) (record {
       same_role = c.role-role.ensures;
+      same_config = ap (λ (d : Draws). configs_seen d c.seen-made.result) c.into_draws.ensures.draws ∙ c.seen-made.ensures;
+      same_suite = c.of.ensures;
       same_input = refl;
       same_waiting = refl;
       same_state = kept_but_plan plan old c.with_left.result (length c.self.inside.state.left.now) refl c.waits-confirmed.result c.waits-confirmed.ensures c.with_left.ensures.confirmed c.with_left.ensures.same;
@@ -26,50 +29,59 @@ returns-clause-pauses g c =
 pub returns-clause-fits : goal.returns-clause-fits
 returns-clause-fits g c =
     let party = config_data c.self.inside.config in
-    let p : PausedData = record {
+    let p : PausedData _ = record {
       draws = c.into_draws.result;
       role = c.role-role.result;
+      configs = configs_seen c.into_draws.result c.seen-made.result;
+      suites = c.of.result.values;
       input = c.self.inside.input;
       state = c.with_left.result;
       left = length c.self.inside.state.left.now;
       waiting = waiting_of c.self.inside.waiting;
     } in
-    rw (← c.self.view_is) (paused_fits (g.S.Suite.meaning c.self.inside.suite.now) party c.self.inside.state p refl c.waits-confirmed.result c.waits-confirmed.ensures
-    c.with_left.ensures.confirmed c.with_left.ensures.same (role_of c.self.inside.config) c.role-role.ensures c.self.invariant)
+    rw (← c.self.view_is) (paused_fits g.S.Suite.meaning party c.self.inside.suite.now c.self.inside.state p refl c.waits-confirmed.result c.waits-confirmed.ensures
+    c.with_left.ensures.confirmed c.with_left.ensures.same (role_of c.self.inside.config) c.role-role.ensures
+    (ap (λ (d : Draws). configs_seen d c.seen-made.result) c.into_draws.ensures.draws ∙ c.seen-made.ensures) c.of.ensures c.self.invariant)
 
 pub returns-clause-fits_client : goal.returns-clause-fits_client
 returns-clause-fits_client g c =
     let party = config_data c.self.inside.config in
-    let p : PausedData = record {
+    let p : PausedData _ = record {
       draws = c.into_draws.result;
       role = c.role-role.result;
+      configs = configs_seen c.into_draws.result c.seen-made.result;
+      suites = c.of.result.values;
       input = c.self.inside.input;
       state = c.with_left.result;
       left = length c.self.inside.state.left.now;
       waiting = waiting_of c.self.inside.waiting;
     } in
-    rw (← c.self.view_is) (λ client draws role_is party_is.
-    fits_as (g.S.Suite.meaning c.self.inside.suite.now) (role_of c.self.inside.config) Client party (config_of_client (redrawn_client p.draws client)) p role_is
-    (party_is ∙ ap (λ (d : Draws). config_of_client (redrawn_client d client)) (sym (c.into_draws.ensures.client client draws party_is)))
-    (paused_fits (g.S.Suite.meaning c.self.inside.suite.now) party c.self.inside.state p refl c.waits-confirmed.result c.waits-confirmed.ensures
-    c.with_left.ensures.confirmed c.with_left.ensures.same (role_of c.self.inside.config) c.role-role.ensures c.self.invariant))
+    rw (← c.self.view_is) (λ client draws suite role_is party_is suite_is.
+    fits_as g.S.Suite.meaning (role_of c.self.inside.config) Client party (config_of_client (redrawn_client p.draws client)) c.self.inside.suite.now suite p role_is
+    (party_is ∙ ap (λ (d : Draws). config_of_client (redrawn_client d client)) (sym (c.into_draws.ensures.client client draws party_is))) suite_is
+    (paused_fits g.S.Suite.meaning party c.self.inside.suite.now c.self.inside.state p refl c.waits-confirmed.result c.waits-confirmed.ensures
+    c.with_left.ensures.confirmed c.with_left.ensures.same (role_of c.self.inside.config) c.role-role.ensures
+    (ap (λ (d : Draws). configs_seen d c.seen-made.result) c.into_draws.ensures.draws ∙ c.seen-made.ensures) c.of.ensures c.self.invariant))
 
 pub returns-clause-fits_server : goal.returns-clause-fits_server
 returns-clause-fits_server g c =
     let party = config_data c.self.inside.config in
-    let p : PausedData = record {
+    let p : PausedData _ = record {
       draws = c.into_draws.result;
       role = c.role-role.result;
+      configs = configs_seen c.into_draws.result c.seen-made.result;
+      suites = c.of.result.values;
       input = c.self.inside.input;
       state = c.with_left.result;
       left = length c.self.inside.state.left.now;
       waiting = waiting_of c.self.inside.waiting;
     } in
-    rw (← c.self.view_is) (λ server draws role_is party_is.
-    fits_as (g.S.Suite.meaning c.self.inside.suite.now) (role_of c.self.inside.config) Server party (config_of_server (redrawn_server p.draws server)) p role_is
-    (party_is ∙ ap (λ (d : Draws). config_of_server (redrawn_server d server)) (sym (c.into_draws.ensures.server server draws party_is)))
-    (paused_fits (g.S.Suite.meaning c.self.inside.suite.now) party c.self.inside.state p refl c.waits-confirmed.result c.waits-confirmed.ensures
-    c.with_left.ensures.confirmed c.with_left.ensures.same (role_of c.self.inside.config) c.role-role.ensures c.self.invariant))
+    rw (← c.self.view_is) (λ server draws suite role_is party_is suite_is.
+    fits_as g.S.Suite.meaning (role_of c.self.inside.config) Server party (config_of_server (redrawn_server p.draws server)) c.self.inside.suite.now suite p role_is
+    (party_is ∙ ap (λ (d : Draws). config_of_server (redrawn_server d server)) (sym (c.into_draws.ensures.server server draws party_is))) suite_is
+    (paused_fits g.S.Suite.meaning party c.self.inside.suite.now c.self.inside.state p refl c.waits-confirmed.result c.waits-confirmed.ensures
+    c.with_left.ensures.confirmed c.with_left.ensures.same (role_of c.self.inside.config) c.role-role.ensures
+    (ap (λ (d : Draws). configs_seen d c.seen-made.result) c.into_draws.ensures.draws ∙ c.seen-made.ensures) c.of.ensures c.self.invariant))
 
 pub returns-clause-client : goal.returns-clause-client
 returns-clause-client g c = rw (← c.self.view_is) (λ client draws e. c.into_draws.ensures.client client draws e)

@@ -1,6 +1,5 @@
-use Rattle.std.proofs.Common.{length, ◌+◌, ◌*◌, ◌-◌, ◌≡◌, ◌≢◌, ◌≤◌, take}
-use Rattle.sshcore.specs.declared.end.Fault.TheVariants as fault
-use Rattle.sshcore.specs.EndData.{Failed, Open}
+use Rattle.std.proofs.Common.{length, ◌+◌, ◌*◌, ◌-◌, ◌≡◌, ◌≢◌, ◌≤◌, false, take}
+use Rattle.sshcore.specs.EndData.{Open, by_input}
 use Rattle.sshcore.specs.Endpoints.{Fed, endpoint_end, turns_of}
 use Rattle.sshcore.proofs.endpoint.Endpoint.feed.Given as goal
 
@@ -8,7 +7,7 @@ abbrev pub invariant-loop-used : goal.invariant-loop-used
 invariant-loop-used g l = record {
   fed : Fed g.S.Suite.meaning g.D.Decisions.policy l.initial.self l.self (take l.used l.piece) l.initial.out.items l.out.items;
   within : l.used ≤ length l.piece;
-  kept : endpoint_end l.self ≡ Failed fault.Memory → endpoint_end l.initial.self ≡ Failed fault.Memory;
+  owned : by_input (endpoint_end l.self) ≡ false → endpoint_end l.initial.self ≡ endpoint_end l.self;
   ended : endpoint_end l.initial.self ≢ Open → (l.used ≡ 0) × (l.self ≡ l.initial.self) × (l.out ≡ l.initial.out);
 }
 

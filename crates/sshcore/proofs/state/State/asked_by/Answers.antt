@@ -1,10 +1,7 @@
-use Rattle.std.proofs.Common.{◌≡◌, ◌+◌, ◌≤◌, length, ap, ◌∙◌, arith}
+use Rattle.std.proofs.Common.{ap, ◌∙◌}
 use Rattle.std.proofs.lemmas.Result.{IfOk-weaker}
-use Rattle.sshmsg.specs.Lengths.{method_length, payload_length}
 use Rattle.sshmsg.specs.Numbers.{number_of}
-use Rattle.sshmsg.specs.View.{message_data, method_data}
-use Rattle.sshmsg.specs.MessageData.{method_name}
-use Rattle.sshpacket.specs.declared.limits.TheConstants.{PACKET_LIMIT}
+use Rattle.sshmsg.specs.View.{message_data}
 use Rattle.sshcore.specs.EndpointConfig.{config_data, role_of}
 use Rattle.sshcore.specs.StateData.{state_data}
 use Rattle.sshcore.proofs.AskedLemmas.{kex_ecdh_asks, kexdh_asks}
@@ -21,22 +18,6 @@ pub asked_host_key-requires-in-KexEcdhReply : goal.asked_host_key-requires-in-Ke
 asked_host_key-requires-in-KexEcdhReply g c =
     let has = has_place c.messages_law.ensures.complete c.numbers_law.ensures.kind c.numbers_law.ensures.alike (role_of c.args.config.now) (state_data c.args.self.now) c.args.payload.now (message_data c.args.message.now) c.requires.reads c.requires.spelled in
     (works.at_reply _ _ _ _ has (ap (λ x. number_of (message_data x)) c.in-KexEcdhReply.is)).phase_is
-
-pub asked_request-requires-clause-user : goal.asked_request-requires-clause-user
-asked_request-requires-clause-user g c =
-    let m = method_data c.in-UserauthRequest.method in
-    let whole : length c.args.payload.now ≡ payload_length (message_data c.args.message.now) = c.lengths_law.ensures.spelled _ _ _ c.requires.spelled in
-    let parts : payload_length (message_data c.args.message.now) ≡ length c.in-UserauthRequest.user.now + length c.in-UserauthRequest.service.now + length (method_name m) + method_length m + 13 = ap (λ x. payload_length (message_data x)) c.in-UserauthRequest.is in
-    let short : length c.args.payload.now ≤ PACKET_LIMIT = c.requires.short in
-    omega arith
-
-pub asked_request-requires-clause-method : goal.asked_request-requires-clause-method
-asked_request-requires-clause-method g c =
-    let m = method_data c.in-UserauthRequest.method in
-    let whole : length c.args.payload.now ≡ payload_length (message_data c.args.message.now) = c.lengths_law.ensures.spelled _ _ _ c.requires.spelled in
-    let parts : payload_length (message_data c.args.message.now) ≡ length c.in-UserauthRequest.user.now + length c.in-UserauthRequest.service.now + length (method_name m) + method_length m + 13 = ap (λ x. payload_length (message_data x)) c.in-UserauthRequest.is in
-    let short : length c.args.payload.now ≤ PACKET_LIMIT = c.requires.short in
-    works.fits_method m (omega arith)
 
 pub returns-in-KexdhReply : goal.returns-in-KexdhReply
 returns-in-KexdhReply g c =

@@ -15,13 +15,13 @@ returns-in_default g c =
 
 pub returns-in-None : goal.returns-in-None
 returns-in-None g c =
-    none_of (λ proof. UserQuestion c.args.self.now.request c.args.user.now c.in-Some.service.now (proof_data proof)) c.in_ok-proof_asked.field-0 _ c.in_ok-proof_asked.ensures c.in-None.is
+    none_of (λ proof. UserQuestion c.args.self.now.request c.args.user.now c.in-Some.service.now (proof_data proof)) c.proof_asked.result _ (c.proof_asked.ensures c.args.user.now c.in-Some.service.now) c.in-None.is
     ∙ asks_here (g.S.Suite.meaning c.args.suite.now) (config_data c.args.config.now) (state_data c.args.self.now).known c.args.user.now c.args.service.now
     (method_data c.args.method.now) c.service.result c.service.ensures.service c.in-Some.service c.in-Some.is
 
-pub returns-in-Some-2 : goal.returns-in-Some-2
-returns-in-Some-2 g c =
+pub returns-in-Some-proof_asked : goal.returns-in-Some-proof_asked
+returns-in-Some-proof_asked g c =
     IfOk-weaker c.asked_proof.result _ _ (λ q is. is
-    ∙ (some_of (λ proof. UserQuestion c.args.self.now.request c.args.user.now c.in-Some.service.now (proof_data proof)) c.in_ok-proof_asked.field-0 _ c.in-Some-2.proof c.in_ok-proof_asked.ensures c.in-Some-2.is
+    ∙ (some_of (λ proof. UserQuestion c.args.self.now.request c.args.user.now c.in-Some.service.now (proof_data proof)) c.proof_asked.result _ c.in-Some-proof_asked.proof (c.proof_asked.ensures c.args.user.now c.in-Some.service.now) c.in-Some-proof_asked.is
     ∙ asks_here (g.S.Suite.meaning c.args.suite.now) (config_data c.args.config.now) (state_data c.args.self.now).known c.args.user.now c.args.service.now
     (method_data c.args.method.now) c.service.result c.service.ensures.service c.in-Some.service c.in-Some.is)) c.asked_proof.ensures

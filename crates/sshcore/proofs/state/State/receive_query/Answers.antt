@@ -17,10 +17,10 @@ returns-then-tries-self-clause-gives g c =
 pub returns-in-None-clause-gives : goal.returns-in-None-clause-gives
 returns-in-None-clause-gives g c =
     let more : nat_le (config_data c.args.config.now).tries (state_data c.forget_others.new.self).known.request ≡ false = search rules in
-    let off : would_do (g.D.Decisions.policy c.args.decisions.now) (config_data c.args.config.now) (state_data c.forget_others.new.self).known c.args.user.now c.args.service.now c.args.algorithm.now c.args.key.now ≡ false =
+    let off : would_do (g.S.Suite.meaning c.args.suite.now) (g.D.Decisions.policy c.args.decisions.now) (config_data c.args.config.now) (state_data c.forget_others.new.self).known c.args.user.now c.args.service.now c.args.algorithm.now c.args.key.now ≡ false =
     missed _ c.args.algorithm.now c.would_do.result c.would_do.ensures.would c.in-None.is in
     on_ok_weaker c.refuse.result (λ given strict next.
-    gives_by _ _ strict next _ _ _ _ _ _ (query_refused (g.D.Decisions.policy c.args.decisions.now) (config_data c.args.config.now) (state_data c.args.self.now).known _ _ (ap (λ (k : StateData). k.known) c.forget_others.ensures) c.args.user.now c.args.service.now c.args.algorithm.now c.args.key.now off)
+    gives_by _ _ strict next _ _ _ _ _ _ (query_refused (g.S.Suite.meaning c.args.suite.now) (g.D.Decisions.policy c.args.decisions.now) (config_data c.args.config.now) (state_data c.args.self.now).known _ _ (ap (λ (k : StateData). k.known) c.forget_others.ensures) c.args.user.now c.args.service.now c.args.algorithm.now c.args.key.now off)
     (gives_from _ _ strict next (state_data c.forget_others.new.self) (state_data c.args.self.now) _ _ _ _ (sym (ap (λ (k : StateData). k.sending) c.forget_others.ensures))
     (gives_by _ _ strict next _ _ _ _ _ _ (more_goes (config_data c.args.config.now) (state_data c.forget_others.new.self).known _ more) (given strict next)))) c.refuse.ensures.gives
 
@@ -29,6 +29,6 @@ returns-in-Some-clause-gives g c =
     let more : nat_le (config_data c.args.config.now).tries (state_data c.forget_others.new.self).known.request ≡ false = search rules in
     let found = had _ c.args.algorithm.now c.would_do.result c.in-Some.name c.would_do.ensures.would c.in-Some.is in
     on_ok_weaker c.confirm.result (λ given strict next.
-    gives_by _ _ strict next _ _ _ _ _ _ (query_confirmed (g.D.Decisions.policy c.args.decisions.now) (config_data c.args.config.now) (state_data c.args.self.now).known _ _ (ap (λ (k : StateData). k.known) c.forget_others.ensures) c.args.user.now c.args.service.now c.args.algorithm.now c.args.key.now c.in-Some.name.now found.1 found.0)
+    gives_by _ _ strict next _ _ _ _ _ _ (query_confirmed (g.S.Suite.meaning c.args.suite.now) (g.D.Decisions.policy c.args.decisions.now) (config_data c.args.config.now) (state_data c.args.self.now).known _ _ (ap (λ (k : StateData). k.known) c.forget_others.ensures) c.args.user.now c.args.service.now c.args.algorithm.now c.args.key.now c.in-Some.name.now found.1 found.0)
     (gives_from _ _ strict next (state_data c.forget_others.new.self) (state_data c.args.self.now) _ _ _ _ (sym (ap (λ (k : StateData). k.sending) c.forget_others.ensures))
     (gives_by _ _ strict next _ _ _ _ _ _ (more_goes (config_data c.args.config.now) (state_data c.forget_others.new.self).known _ more) (given strict next)))) c.confirm.ensures.gives

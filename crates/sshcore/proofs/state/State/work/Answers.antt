@@ -10,6 +10,11 @@ use Rattle.sshcore.proofs.WorksLemmas as works
 use Rattle.sshcore.proofs.WorksLemmas.{IsNone, has_place, on_four, on_three}
 use Rattle.sshcore.proofs.state.State.work.Goals as goal
 
+pub receive_kexinit-requires-clause-read : goal.receive_kexinit-requires-clause-read
+receive_kexinit-requires-clause-read g c =
+    let has = has_place c.messages_law.ensures.complete c.numbers_law.ensures.kind c.numbers_law.ensures.alike (role_of c.args.config.now) (state_data c.args.self.now) c.args.payload.now (message_data c.args.message.now) c.requires.reads c.requires.spelled in
+    has.offers (kexinit_data c.deref.result.now) (ap message_data c.in-KexInit.is ∙ ap (λ k. content.KexInit (kexinit_data k)) (sym c.deref.ensures))
+
 pub receive_new_keys-requires : goal.receive_new_keys-requires
 receive_new_keys-requires g c =
     let has = has_place c.messages_law.ensures.complete c.numbers_law.ensures.kind c.numbers_law.ensures.alike (role_of c.args.config.now) (state_data c.args.self.now) c.args.payload.now (message_data c.args.message.now) c.requires.reads c.requires.spelled in
@@ -54,7 +59,7 @@ returns-in_default-clause-works g c = λ _.
       confirmation = c.in_default.not-UserauthPkOk;
     } in
     let ignored = works.ignores setup (state_data c.args.self.now).known c.args.message.now none in
-    works.plain_works setup _ _ _ _ _ has ignored.plain ignored.work_is c.requires.open refl
+    works.plain_works setup _ _ _ _ _ has ignored.plain ignored.work_is c.requires.open c.count.ensures
 
 pub returns-in-NewKeys-clause-works : goal.returns-in-NewKeys-clause-works
 returns-in-NewKeys-clause-works g c = λ _.

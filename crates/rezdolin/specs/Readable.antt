@@ -1,0 +1,42 @@
+-- The numbers and entries of a program that can be read.
+
+use Rattle.std.specs.Prelude.{◌≡◌, ◌≢◌, ◌⊎◌, ℕ, ◌≤◌, []}
+use Rattle.std.specs.List.{AllByRecursion}
+use Rattle.rezdolin.specs.declared.inputs.AttemptInput.{AttemptInput}
+use Rattle.rezdolin.specs.declared.inputs.ClientInput.{ClientInput}
+use Rattle.rezdolin.specs.declared.inputs.ServerInput.{ServerInput}
+use Rattle.rezdolin.specs.declared.inputs.UserInput.{UserInput}
+use Rattle.rezdolin.specs.declared.inputs.TheConstants.{METHOD_NONE, METHOD_PASSWORD, METHOD_PUBLICKEY, STRICT_NO, STRICT_YES}
+
+-- a side tells whether it is willing to be strict: the number isn't left out
+abbrev pub IsStrictness : ℕ → Type 0
+IsStrictness number = (number ≡ STRICT_YES) ⊎ (number ≡ STRICT_NO)
+
+-- a method is one of the three, none of which is 0
+abbrev pub IsMethod : ℕ → Type 0
+IsMethod number = (number ≡ METHOD_NONE) ⊎ ((number ≡ METHOD_PASSWORD) ⊎ (number ≡ METHOD_PUBLICKEY))
+
+-- an attempt has a method, and a yes or no
+pub record IsAttempt (attempt : AttemptInput) : Type 0 where
+  pub method : IsMethod attempt.method
+  pub ask : attempt.ask ≤ 1
+
+-- An entry has a user, and what its method wants: no bytes where the user is accepted without a proof, and else some.
+pub record IsEntry (entry : UserInput) : Type 0 where
+  pub user : entry.user.now ≢ []
+  pub method : IsMethod entry.method
+  pub unproved : entry.method ≡ METHOD_NONE → entry.proof.now ≡ []
+  pub proved : entry.method ≢ METHOD_NONE → entry.proof.now ≢ []
+
+-- a client's numbers
+pub record IsClientRead (client : ClientInput) : Type 0 where
+  pub strict : IsStrictness client.side.strict
+  pub guess : client.guess ≤ 1
+  pub asks : client.asks ≤ 1
+  pub plan : AllByRecursion IsAttempt client.plan.now
+
+-- a server's numbers, and its entries where they are read
+pub record IsServerRead (server : ServerInput) : Type 0 where
+  pub strict : IsStrictness server.side.strict
+  pub asks : server.asks ≤ 1
+  pub users : server.asks ≢ 1 → AllByRecursion IsEntry server.users.now

@@ -1,0 +1,94 @@
+//! Whether the numbers and the entries of a program can be read.
+//!
+//! A number that says nothing is refused, and so is an entry that would accept more than its writer means: of a forgotten
+//! method, of an empty password, of no user.
+
+ghost use Rattle.std.specs.Prelude.{◌≡◌, false, true};
+ghost use Rattle.std.specs.List.{AllByRecursion};
+ghost use Rattle.rezdolin.specs.Readable.{IsAttempt, IsClientRead, IsEntry, IsMethod, IsServerRead, IsStrictness};
+
+use crate::inputs::{
+    AttemptInput, ClientInput, METHOD_NONE, METHOD_PASSWORD, METHOD_PUBLICKEY, STRICT_NO,
+    STRICT_YES, ServerInput, UserInput,
+};
+
+/// Whether the numbers of a client can be read.
+pub(crate) fn is_client_read(client: &ClientInput<'_>) -> bool
+    ensures yes { result ≡ true → IsClientRead client.now }
+    ensures no { result ≡ false → IsClientRead client.now → ⊥ }
+{
+    is_strictness(client.side.strict)
+        && client.guess <= 1
+        && client.asks <= 1
+        && are_attempts(client.plan)
+}
+
+/// Whether the numbers of a server, and the entries that it reads, can be read.
+pub(crate) fn is_server_read(server: &ServerInput<'_>) -> bool
+    ensures yes { result ≡ true → IsServerRead server.now }
+    ensures no { result ≡ false → IsServerRead server.now → ⊥ }
+{
+    is_strictness(server.side.strict)
+        && server.asks <= 1
+        && (server.asks == 1 || are_entries(server.users))
+}
+
+/// Whether the numbers of each attempt can be read.
+fn are_attempts(plan: &[AttemptInput<'_>]) -> bool
+    ensures yes { result ≡ true → AllByRecursion IsAttempt plan.now }
+    ensures no { result ≡ false → AllByRecursion IsAttempt plan.now → ⊥ }
+{
+    for attempt in plan {
+        if !is_attempt(attempt) {
+            return false;
+        }
+    }
+    true
+}
+
+/// Whether each entry can be read.
+fn are_entries(users: &[UserInput<'_>]) -> bool
+    ensures yes { result ≡ true → AllByRecursion IsEntry users.now }
+    ensures no { result ≡ false → AllByRecursion IsEntry users.now → ⊥ }
+{
+    for entry in users {
+        if !is_entry(entry) {
+            return false;
+        }
+    }
+    true
+}
+
+/// Whether a number says that a side is strict, or that it isn't.
+fn is_strictness(number: u32) -> bool
+    ensures yes { result ≡ true → IsStrictness number }
+    ensures no { result ≡ false → IsStrictness number → ⊥ }
+{
+    number == STRICT_YES || number == STRICT_NO
+}
+
+/// Whether a number is one of a method.
+fn is_method(number: u32) -> bool
+    ensures yes { result ≡ true → IsMethod number }
+    ensures no { result ≡ false → IsMethod number → ⊥ }
+{
+    number == METHOD_NONE || number == METHOD_PASSWORD || number == METHOD_PUBLICKEY
+}
+
+/// Whether the numbers of an attempt can be read.
+fn is_attempt(attempt: &AttemptInput<'_>) -> bool
+    ensures yes { result ≡ true → IsAttempt attempt.now }
+    ensures no { result ≡ false → IsAttempt attempt.now → ⊥ }
+{
+    is_method(attempt.method) && attempt.ask <= 1
+}
+
+/// Whether an entry has a user, a method, and what the method wants: nothing, or some bytes.
+fn is_entry(entry: &UserInput<'_>) -> bool
+    ensures yes { result ≡ true → IsEntry entry.now }
+    ensures no { result ≡ false → IsEntry entry.now → ⊥ }
+{
+    !entry.user.is_empty()
+        && is_method(entry.method)
+        && entry.proof.is_empty() == (entry.method == METHOD_NONE)
+}

@@ -1,0 +1,46 @@
+//! What the suite says that it has.
+
+ghost use Rattle.std.specs.Prelude.{◌≡◌};
+ghost use Rattle.sshsuite.specs.DeployedInventory.{deployed_inventory};
+
+use crate::deployed_suite::DeployedSuite;
+use crate::keyed_suite::KeyedSuite;
+use sshpacket::Inventory;
+
+/// The ciphers chacha20-poly1305@openssh.com and aes256-gcm@openssh.com, the methods curve25519-sha256, under both of its
+/// names, and diffie-hellman-group14-sha256, and private keys of ssh-ed25519 with 32 bytes. By RSA the suite
+/// verifies and doesn't sign, so it holds no key of these algorithms.
+impl Inventory for DeployedSuite {
+    ghost inventory = { λ _. deployed_inventory };
+
+    fn has_cipher(&self, cipher: &str) -> bool {
+        cipher == "chacha20-poly1305@openssh.com" || cipher == "aes256-gcm@openssh.com"
+    }
+
+    fn has_kex(&self, kex: &str) -> bool {
+        kex == "curve25519-sha256"
+            || kex == "curve25519-sha256@libssh.org"
+            || kex == "diffie-hellman-group14-sha256"
+    }
+
+    fn holds(&self, algorithm: &str, private_key: &[u8]) -> bool {
+        algorithm == "ssh-ed25519" && private_key.len() == 32
+    }
+}
+
+/// What [`DeployedSuite`] has.
+impl Inventory for KeyedSuite<'_> {
+    ghost inventory = { λ _. deployed_inventory };
+
+    fn has_cipher(&self, cipher: &str) -> bool {
+        DeployedSuite.has_cipher(cipher)
+    }
+
+    fn has_kex(&self, kex: &str) -> bool {
+        DeployedSuite.has_kex(kex)
+    }
+
+    fn holds(&self, algorithm: &str, private_key: &[u8]) -> bool {
+        DeployedSuite.holds(algorithm, private_key)
+    }
+}

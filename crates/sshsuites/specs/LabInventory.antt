@@ -1,0 +1,11 @@
+-- What the insecure suites have: every name, and every key, since they have an answer for each.
+
+use Rattle.std.specs.Prelude.{true}
+use Rattle.sshpacket.specs.Inventory.{InventoryData}
+
+abbrev pub lab_inventory : InventoryData
+lab_inventory = record {
+  has_cipher = λ cipher. true;
+  has_kex = λ kex. true;
+  holds = λ algorithm secret. true;
+}

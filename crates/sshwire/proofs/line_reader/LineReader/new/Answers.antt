@@ -1,5 +1,0 @@
-use Rattle.sshwire.proofs.Readings.{nothing_received}
-use Rattle.sshwire.proofs.line_reader.LineReader.new.Goals as goal
-
-pub returns-clause-nothing : goal.returns-clause-nothing
-returns-clause-nothing c = rw c.new.ensures.items (nothing_received c.args.others)
