@@ -111,6 +111,14 @@ enum {
     REZDOLIN_STRICT_NO = 2
 };
 
+/* By which grammar the peer's version line is read. A line that isn't taken is F1. 0 is one of these, so a field that was left
+ * out is the default: it accepts nobody. What a side sends is the same by either. */
+enum {
+    REZDOLIN_READING_DEPLOYED = 0, /* as deployed peers write it: as below, but minus signs may stand in its softwareversion, LF
+                                    * alone may end it, and a client takes SSH-1.99- as 2.0 (RFC 4253 section 5.1) */
+    REZDOLIN_READING_STRICT = 1    /* by the letter of RFC 4253 section 4.2 */
+};
+
 /* What both sides have. A list of names is its text, with single commas between the names; no bytes are the empty
  * list. Draws are random bytes for one connection, which nobody can foresee. */
 typedef struct rezdolin_side {
@@ -125,6 +133,7 @@ typedef struct rezdolin_side {
     rezdolin_bytes exchange_random; /* 32 bytes drawn */
     rezdolin_bytes padding_seed;    /* 32 bytes drawn */
     uint32_t strict;                /* REZDOLIN_STRICT_YES, unless you know better */
+    uint32_t reading;               /* REZDOLIN_READING_DEPLOYED, unless each peer is known to write by the letter */
 } rezdolin_side;
 
 /* One attempt of a client to authenticate. */
@@ -256,7 +265,7 @@ enum {
     REZDOLIN_SESSION_IDENTIFIER = 2,
     REZDOLIN_USER = 3,
     REZDOLIN_SERVICE = 4,
-    REZDOLIN_OWN_VERSION = 5,        /* version lines, without CR LF */
+    REZDOLIN_OWN_VERSION = 5,        /* version lines, without what ends them */
     REZDOLIN_PEER_VERSION = 6,
     REZDOLIN_SERVER_KEY = 7,         /* the server's public key */
     REZDOLIN_AGREED_KEX = 8,         /* names of algorithms from here on */

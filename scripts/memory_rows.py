@@ -18,6 +18,8 @@ ROWS = {
     'datatypes': [('list 7a6c69622c6e6f6e65', {'V7, the reader as it was'}), ('puts list 7a6c69622c6e6f6e65', {VECTOR}),
                   ('puts of each kind', {VECTOR})],
     'line_reader': [('lines take 20 others of 20', {'V7 for good'})],
+    'peer_lines': [('68690a0d0a5353482d312e39392d2d0d0a5353482d322e302d620a of 2, cut at 13, by a client', {'V7 for good'}),
+                   (f'a client that reads deployed, by {b"SSH-1.99-x-y z".hex()} of its peer\'s, ended by LF', ENDPOINT)],
     'sealing': [('packet lab in clear of 1, number 0', {'P5 for good', VECTOR}), ('packet lab c of 17, number 0', {'P5 for good', VECTOR}),
                 ('packet second c of 17, number 0', {'P5 for good', VECTOR})],
     'messages': [('message mpint 330000001270617373776f72642c7075626c69636b657900', {NO_VALUE, VECTOR}),

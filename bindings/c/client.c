@@ -39,13 +39,18 @@ static bool receive(void) {
     return n > 0;
 }
 
-/* Shows a person at the terminal the key of the question, and asks whether it is the server's. */
+/* Shows a person at the terminal the key of the question, and asks whether it is the server's: by digits that only the question
+ * tells, since a `yes` may have been typed before it stood there. */
 static bool is_trusted(size_t question_len) {
     size_t count, n = 0;
+    char last[8], typed[8];
     const uint8_t *key = rezdolin_field(question, question_len, REZDOLIN_QUESTION_KEY, &count);
     for (person = fopen("/dev/tty", "r+"); person && n < count; n++)
         fprintf(person, "%02x", key[n]);
-    return person && fputs("\nIs this the server's key? yes/no ", person) >= 0 && fflush(person) == 0 && getc(person) == 'y';
+    if (!person || count < 3 || fputs("\nthe server's key: type its last 6 digits to trust it: ", person) < 0 || fflush(person) != 0)
+        return false;
+    snprintf(last, sizeof last, "%02x%02x%02x\n", key[count - 3], key[count - 2], key[count - 1]);
+    return fgets(typed, sizeof typed, person) && strcmp(typed, last) == 0;
 }
 
 /* Authenticates, and leaves the bytes that come after that in `received`. */
@@ -104,9 +109,10 @@ static size_t put(uint8_t *message, size_t at, const char *text) {
     return at + 4 + count;
 }
 
-/* Runs a command of at most 255 bytes on channel 0 of both sides (RFC 4254), and prints what it prints. */
+/* Runs a command of at most 255 bytes, without an input, on channel 0 of both sides (RFC 4254), and prints what it prints. The
+ * server may send 2^32 - 1 bytes: no more are granted. */
 static bool run(const char *command) {
-    static const uint8_t sizes[12] = {0, 0, 0, 0, 0, 16, 0, 0, 0, 0, 128, 0};
+    static const uint8_t sizes[12] = {0, 0, 0, 0, 255, 255, 255, 255, 0, 0, 128, 0};
     uint8_t message[300] = {90}; /* CHANNEL_OPEN */
     size_t count = put(message, 1, "session");
     memcpy(message + count, sizes, sizeof sizes);
@@ -117,12 +123,14 @@ static bool run(const char *command) {
             memcpy(message, "\x62\0\0\0", 5); /* CHANNEL_REQUEST */
             count = put(message, 5, "exec");
             message[count] = 1;
-            if (!send_payload(message, put(message, count + 1, command)))
+            if (!send_payload(message, put(message, count + 1, command)) || !send_payload((const uint8_t *)"\x60\0\0\0", 5)) /* EOF */
                 return false;
         } else if (out[0] == 94 && count > 9) { /* DATA */
             fwrite(out + 9, 1, count - 9, stdout);
         } else if (out[0] == 97) { /* CLOSE */
             return true;
+        } else if (out[0] == 1 || out[0] == 92 || out[0] == 100) { /* DISCONNECT, OPEN_FAILURE, CHANNEL_FAILURE */
+            return false;
         }
     }
     return false;
@@ -143,7 +151,7 @@ int main(int argc, char **argv) {
         attempt.secret.len--;
     rezdolin_client_input client = {
         .side = {REZDOLIN_TEXT("rezdolin"), REZDOLIN_TEXT(""), REZDOLIN_TEXT(REZDOLIN_KEX), ciphers, ciphers, macs, macs,
-                 {drawn, 16}, {drawn + 16, 32}, {drawn + 48, 32}, REZDOLIN_STRICT_YES},
+                 {drawn, 16}, {drawn + 16, 32}, {drawn + 48, 32}, REZDOLIN_STRICT_YES, REZDOLIN_READING_DEPLOYED},
         .server_host_key_algorithms = REZDOLIN_TEXT(REZDOLIN_HOST_KEY),
         .plan = &attempt, .plan_len = 1, .trusted_host_keys = &trusted, .trusted_host_keys_len = 1,
         .asks = strcmp(argv[3], "-") == 0, .answers = {answers, 0}};

@@ -91,6 +91,40 @@ static void refusals(void) {
     row("a version line that is refused", ended(&s, 0, REZDOLIN_FAILED, 1, 0));
 }
 
+/* A peer's version line, read by this grammar: whether a client and a server take it; a side that doesn't ends as F1. */
+static bool reads(uint32_t reading, const char *line, bool client_takes, bool server_takes) {
+    bool takes[2] = {client_takes, server_takes}, holds = true;
+    size_t len = strlen(line);
+    begin(&s, 20);
+    s.client.side.reading = s.server.side.reading = reading;
+    for (int server = 0; server < 2; server++) {
+        rezdolin_endpoint_answer a =
+            server ? rezdolin_server(&s.server, (const uint8_t *)line, len, 0, s.to_client.at, 65536, s.records[1], 16, s.questions[1], 0)
+                   : rezdolin_client(&s.client, (const uint8_t *)line, len, 0, s.to_server.at, 65536, s.records[0], 16, s.questions[0], 0);
+        s.ends[server] = a;
+        holds = holds && (takes[server] ? ended(&s, server, REZDOLIN_OPEN, 0, 0) && a.used == len : ended(&s, server, REZDOLIN_FAILED, 1, 0));
+    }
+    return holds;
+}
+
+static void readings(void) {
+    const uint32_t left_out = 0, letter = REZDOLIN_READING_STRICT;
+    row("the reading that was left out is the deployed one", left_out == REZDOLIN_READING_DEPLOYED);
+    row("a line of the letter", reads(left_out, "SSH-2.0-a_b c\r\n", true, true));
+    row("a minus sign", reads(left_out, "SSH-2.0-a-b\r\n", true, true));
+    row("LF alone", reads(left_out, "SSH-2.0-a\n", true, true));
+    row("1.99", reads(left_out, "SSH-1.99-a\r\n", true, false));
+    row("1.0", reads(left_out, "SSH-1.0-a\r\n", false, false));
+    row("by the letter: a line of it", reads(letter, "SSH-2.0-a_b c\r\n", true, true));
+    row("by the letter: a minus sign", reads(letter, "SSH-2.0-a-b\r\n", false, false));
+    row("by the letter: LF alone", reads(letter, "SSH-2.0-a\n", false, false));
+    row("by the letter: 1.99", reads(letter, "SSH-1.99-a\r\n", false, false));
+    begin(&s, 20);
+    s.client.side.reading = s.server.side.reading = letter;
+    meet(&s, 65536);
+    row("both sides by the letter", are_authenticated(&s));
+}
+
 /* The parts of one side are changed: how its call answers. */
 static bool refuses(int server, uint32_t status, uint32_t config) {
     step(&s, server, 65536);
@@ -219,6 +253,12 @@ static void mistakes(void) {
         *strict[i % 2] = wrong[i / 2];
         row("a side that doesn't say whether it is strict", refuses(i % 2, REZDOLIN_UNREADABLE, 0));
     }
+    uint32_t *reading[2] = {&s.client.side.reading, &s.server.side.reading}, unknown[3] = {2, 255, 0xffffffff};
+    for (int i = 0; i < 6; i++) {
+        begin(&s, 19);
+        *reading[i % 2] = unknown[i / 2];
+        row("a reading that has no such number", refuses(i % 2, REZDOLIN_UNREADABLE, 0));
+    }
     begin(&s, 19);
     s.client.side.strict = REZDOLIN_STRICT_NO;
     meet(&s, 65536);
@@ -338,6 +378,7 @@ static void packets(const char *cipher) {
 int main(void) {
     methods();
     refusals();
+    readings();
     configs();
     mistakes();
     records();

@@ -32,7 +32,7 @@ typedef struct session {
 static inline rezdolin_side side_of(const uint8_t *drawn) {
     rezdolin_bytes ciphers = TEXT(REZDOLIN_CIPHERS), macs = TEXT(REZDOLIN_MACS);
     return (rezdolin_side){TEXT("rezdolin"), TEXT(""), TEXT(REZDOLIN_KEX), ciphers, ciphers, macs, macs,
-                           {drawn, 16}, {drawn + 16, 32}, {drawn + 48, 32}, REZDOLIN_STRICT_YES};
+                           {drawn, 16}, {drawn + 16, 32}, {drawn + 48, 32}, REZDOLIN_STRICT_YES, REZDOLIN_READING_DEPLOYED};
 }
 
 /* The public key of a secret, as often as memory is wanting. */

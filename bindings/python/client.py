@@ -26,9 +26,10 @@ def carry(endpoint, end, decide=None):
 
 
 def is_trusted(question):
-    """Shows a person the key as OpenSSH does, and asks whether it is the server's."""
+    """Shows a person the key as OpenSSH does, and asks whether it is the server's: by characters that only the question tells,
+    since a `y` may have been typed before it stood there."""
     digest = base64.b64encode(hashlib.sha256(question.key).digest()).decode().rstrip('=')
-    return input(f"Is SHA256:{digest} the server's key? (y) ") == 'y'
+    return input(f"the server's key is SHA256:{digest}: type its first 6 characters to trust it: ") == digest[:6]
 
 
 def bytes_of(path):

@@ -26,6 +26,8 @@ HOST_KEY, SERVICE = b'ssh-ed25519', b'ssh-connection'
 ANSWERED, MEMORY, CONFIG, UNREADABLE, ROOM, PAYLOAD, USED_UP, PACKET, MORE = range(9)
 OPEN, AUTHENTICATED, FAILED, CLOSED = range(4)
 ASKS = 5
+# by which grammar the peer's version line is read: as deployed peers write it, or by the letter of RFC 4253 section 4.2
+READINGS = {'deployed': 0, 'strict': 1}
 
 
 class _Bytes(ctypes.Structure):
@@ -39,7 +41,7 @@ def _struct(name, *fields):
 _Side = _struct('_Side', *[(name, _Bytes) for name in (
     'softwareversion', 'comments', 'kex_algorithms', 'encryption_client_to_server', 'encryption_server_to_client',
     'mac_client_to_server', 'mac_server_to_client', 'cookie', 'exchange_random', 'padding_seed')],
-    ('strict', ctypes.c_uint32))
+    ('strict', ctypes.c_uint32), ('reading', ctypes.c_uint32))
 _Attempt = _struct('_Attempt', *[(name, _Bytes) for name in ('user', 'service', 'algorithm', 'secret')],
                    ('method', ctypes.c_uint32), ('ask', ctypes.c_uint32))
 _Client = _struct('_Client', ('side', _Side), ('server_host_key_algorithms', _Bytes),
@@ -91,12 +93,17 @@ class Refused(Exception):
         self.status, self.number = status, number
 
 
+def _octets(data):
+    """The bytes of an object that has bytes. Of a number `bytes` makes as many zeros: a key or a password that anybody has."""
+    return bytes(memoryview(data))
+
+
 class Password:
     """A password."""
     method = 1
 
     def __init__(self, password):
-        self.bytes = bytes(password)
+        self.bytes = _octets(password)
 
 
 class Key:
@@ -104,7 +111,7 @@ class Key:
     method = 2
 
     def __init__(self, key):
-        self.bytes = bytes(key)
+        self.bytes = _octets(key)
 
 
 class Nothing:
@@ -121,7 +128,7 @@ def _list(kind, values):
 
 
 def _text(text):
-    return text.encode() if isinstance(text, str) else bytes(text)
+    return text.encode() if isinstance(text, str) else _octets(text)
 
 
 def _fields(record):
@@ -174,16 +181,19 @@ class Link:
 
 
 class _Endpoint:
-    """What a client and a server have alike."""
+    """What a client and a server have alike. `reading` is `deployed`, or `strict`: the peer's version line is then read by
+    the letter of RFC 4253 section 4.2."""
     call = None
 
-    def __init__(self, kex=KEX, ciphers=CIPHERS, macs=MACS, softwareversion='rezdolin', strict=True):
+    def __init__(self, kex=KEX, ciphers=CIPHERS, macs=MACS, softwareversion='rezdolin', strict=True, reading='deployed'):
+        if reading not in READINGS:
+            raise ValueError(f'reading is one of {", ".join(READINGS)}')
         self._received, self._sent, self._record, self._answers = b'', 0, b'', b''
         self.end, self.fault, self.detail, self.left, self.question = OPEN, 0, 0, b'', None
         texts = [_text(it) for it in (softwareversion, '', kex, ciphers, ciphers, macs, macs)]
         drawn = [os.urandom(size) for size in (16, 32, 32)]
         # (each structure keeps the bytes that were put in alive)
-        self._side = _Side(*[_lent(it) for it in texts + drawn], 1 if strict else 2)
+        self._side = _Side(*[_lent(it) for it in texts + drawn], 1 if strict else 2, READINGS[reading])
 
     @property
     def is_open(self):
@@ -250,7 +260,7 @@ class Client(_Endpoint):
         super().__init__(**lists)
         attempts = [_Attempt(_lent(_text(user)), _lent(SERVICE), _lent(HOST_KEY if proof.method == 2 else b''), _lent(proof.bytes),
                              proof.method, proof.method == 2) for proof in plan]
-        plan, trusted = _list(_Attempt, attempts), _list(_Bytes, [_lent(bytes(key)) for key in trusted_host_keys or []])
+        plan, trusted = _list(_Attempt, attempts), _list(_Bytes, [_lent(_octets(key)) for key in trusted_host_keys or []])
         self._input = _Client(self._side, _lent(HOST_KEY), *plan, *trusted, False, trusted_host_keys is None, _lent(b''))
 
 
@@ -261,7 +271,7 @@ class Server(_Endpoint):
 
     def __init__(self, host_key, users=None, methods='publickey,password', required='', banner=b'', tries=6, **lists):
         super().__init__(**lists)
-        keys = _list(_HostKey, [_HostKey(_lent(HOST_KEY), _lent(bytes(host_key)))])
+        keys = _list(_HostKey, [_HostKey(_lent(HOST_KEY), _lent(_octets(host_key)))])
         entries = _list(_User, [_User(_lent(_text(user)), _lent(proof.bytes), proof.method) for user, proof in users or []])
         texts = [_lent(_text(it)) for it in (SERVICE, methods, required, banner)]
         self._input = _Server(self._side, *keys, *texts, *_list(_Bytes, []), *entries, tries, users is None, _lent(b''))

@@ -63,10 +63,15 @@ class Memory(unittest.TestCase):
                 taken.link()
 
     def test_asks(self):
-        def decides(question):
-            return question.user == b'al' and question.proof.bytes in (public_key(USER), b'secret')
+        accepted = {Key: public_key(USER), Password: b'secret'}
 
-        for proof, trusts, user in ((Key(USER), True, 'al'), (Password(b'secret'), True, 'al'), (Key(USER), False, 'al'), (Key(USER), True, 'bo')):
+        def decides(question):
+            # by the kind of the proof: a password may be any bytes, those of a public key too
+            return question.user == b'al' and question.proof.bytes == accepted.get(type(question.proof))
+
+        for proof, trusts, user, lets_in in (
+                (Key(USER), True, 'al', True), (Password(b'secret'), True, 'al', True), (Password(public_key(USER)), True, 'al', False),
+                (Key(USER), False, 'al', False), (Key(USER), True, 'bo', False)):
             client, server = Client(user, [Nothing(), proof]), Server(HOST)
             to_server, to_client = client.feed(b''), server.feed(b'')
             while to_server or to_client:
@@ -77,7 +82,7 @@ class Memory(unittest.TestCase):
                 if client.question:
                     self.assertEqual((client.question.is_user, client.question.key), (False, public_key(HOST)))
                     to_server += client.answer(trusts)
-            self.assertEqual(client.is_authenticated and server.is_authenticated, trusts and user == 'al')
+            self.assertEqual(client.is_authenticated and server.is_authenticated, lets_in)
             if not trusts:
                 self.assertEqual((client.end, client.fault), (rezdolin.FAILED, 10))
         with self.assertRaises(ValueError):
@@ -104,6 +109,29 @@ class Memory(unittest.TestCase):
         for user, proof in (('al', Password(b'')), ('al', Key(b'')), ('', Password(b'secret')), ('', Nothing())):
             with self.assertRaises(Refused) as refused:
                 Server(HOST, [('al', Password(b'secret')), (user, proof)]).feed(b'')
+            self.assertEqual(refused.exception.status, rezdolin.UNREADABLE)
+
+    def test_a_number_is_no_key(self):
+        # of a number `bytes` makes zeros
+        for made in (lambda: Password(8), lambda: Key(32), lambda: Server(32, []), lambda: Client('al', [], [51]), lambda: Client(2, [Nothing()])):
+            with self.assertRaises(TypeError):
+                made()
+        self.assertEqual((Password(bytearray(b'secret')).bytes, Key(memoryview(USER)).bytes), (b'secret', USER))
+
+    def test_readings(self):
+        lines = {b'SSH-2.0-a_b\r\n': (True, True, True, True), b'SSH-2.0-a-b\r\n': (True, True, False, False),
+                 b'SSH-2.0-a\n': (True, True, False, False), b'SSH-1.99-a\r\n': (True, False, False, False)}
+        for line, taken in lines.items():
+            endpoints = [made for how in ({}, {'reading': 'strict'}) for made in (Client('al', [], [], **how), Server(HOST, [], **how))]
+            for endpoint, is_taken in zip(endpoints, taken):
+                endpoint.feed(line)
+                self.assertEqual((endpoint.end, endpoint.fault), (rezdolin.OPEN, 0) if is_taken else (rezdolin.FAILED, 1), line)
+        with self.assertRaises(ValueError):
+            Client('al', [], [], reading='lax')
+        for endpoint in (Client('al', [], []), Server(HOST, [])):
+            endpoint._input.side.reading = 2
+            with self.assertRaises(Refused) as refused:
+                endpoint.feed(b'')
             self.assertEqual(refused.exception.status, rezdolin.UNREADABLE)
 
     def test_nothing(self):

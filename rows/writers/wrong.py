@@ -25,6 +25,7 @@ def rows(file):
     disconnecting(file, t)
     linked(file, t)
     below(file, t)
+    peer_lines(file, t)
     unjudged(file, t)
 
 
@@ -164,6 +165,36 @@ def below(file, t):
     file.row("the client's first host key isn't chosen", "choose %s %s" % (hexa(t.ci), hexa(t.si)), "chosen 0 1 0 0 0 0 0 0")
     file.row("a client that isn't willing is strict", "choose %s %s" % (hexa(t.ci), hexa(t.si)), "strict client no yes")
     file.row("an exchange has nine parts' length", "derive", "part 41", "exchange 00000001 41" + " 00000000" * 8)
+
+
+def peer_lines(file, t):
+    """Version lines by each form, and endpoints of either reading."""
+    old, minus, short = b"SSH-1.99-x", b"SSH-2.0-a-b", b"SSH-2.0-x"
+    client, server = "lines 0 deployed client", "lines 0 deployed server"
+    file.row("a form of nobody's", "lines 0 deployed nobody", "end open")
+    for name, act, line, end in (("strictly LF alone ends a version line", "lines 0", short + b"\n", "version " + hexa(short)),
+                                 ("strictly a minus sign is taken", "lines 0", minus + b"\r\n", "version " + hexa(minus)),
+                                 ("a reader for a server takes 1.99", server, old + b"\r\n", "version " + hexa(old)),
+                                 ("a reader for a client refuses 1.99", client, old + b"\r\n", "refused V4"),
+                                 ("a reader for a client refuses LF alone", client, short + b"\n", "refused V4"),
+                                 ("a text has its CR", client, short + b"\r\n", "version " + hexa(short + b"\r")),
+                                 ("a text lacks its last byte", server, short + b"\n", "version " + hexa(short[:-1])),
+                                 ("an empty softwareversion is taken", client, b"SSH-2.0-\n", "version " + hexa(b"SSH-2.0-")),
+                                 ("CR CR LF ends a version line", client, short + b"\r\r\n", "version " + hexa(short + b"\r"))):
+        file.row(name, act, feed(line), "end " + end)
+    file.row("a version prints LF", client, feed(short + b"\n"), "prints " + hexa(short + b"\n"))
+    file.row("a version is printed before it came", client, feed(short), "prints " + hexa(short))
+    file.row("an unfinished line lacks its first byte", server, feed(short), "unfinished " + hexa(short[1:]))
+    file.row("a line that was taken is unfinished", "lines 0", feed(short + b"\r\n"), "unfinished " + hexa(short + b"\r"))
+    file.row("a byte behind the version line is used", client, feed(short + b"\nm"), "end version " + hexa(short))
+    file.row("a refusal isn't given again", client, feed(b"\0"), feed(), "end open")
+    file.row("a config of no reading", "config client", "reading loose", "attempts 0")
+    for role, reading, line in ((CLIENT, "strict", minus + b"\r\n"), (SERVER, "strict", short + b"\n"), (SERVER, "deployed", old + b"\r\n"), (CLIENT, "deployed", b"SSH-1.5-x\n")):
+        file.row("a %s that reads %s takes %s" % (role, reading, line.hex()), "config " + role, "reading " + reading, "generous",
+                 says(t.c_first if role == CLIENT else t.s_first), feed(line), "end open")
+    other = Talk(greetings=(None, minus + b"\r\n"))
+    file.row("the exchange hash is that of another line", "config client", "reading deployed", "generous", feed(old + b"\n", other.s_first[len(minus) + 2:], other.s_reply),
+             says(other.c_first, other.c_init, other.c_newkeys, other.c_service), asked("host_key"), "end open")
 
 
 def unjudged(file, t):

@@ -17,13 +17,15 @@ fn draw<const N: usize>() -> std::io::Result<[u8; N]> {
     Ok(bytes)
 }
 
-/// Shows a person the key, and asks whether it is the server's.
+/// Shows a person the key, and asks whether it is the server's: by digits that only the question tells, since a `y` may have
+/// been typed before it stood there.
 fn is_trusted(question: &Question) -> std::io::Result<bool> {
     let Question::HostKey { key, .. } = question else { return Ok(false) };
-    eprint!("Is {key:02x?} the server's key? (y) ");
+    let digits: String = key.iter().map(|byte| format!("{byte:02x}")).collect();
+    eprint!("the server's key is {digits}: type its last 6 digits to trust it: ");
     let mut line = String::new();
     std::io::stdin().read_line(&mut line)?;
-    Ok(line.trim() == "y")
+    Ok(line.trim().len() == 6 && digits.ends_with(line.trim()))
 }
 
 /// Carries the client over a stream until it has ended, and answers what came after that.

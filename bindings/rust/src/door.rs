@@ -49,6 +49,12 @@ pub const STRICT_YES: u32 = 1;
 /// A side isn't willing to be strict.
 pub const STRICT_NO: u32 = 2;
 
+/// The peer's version line is read as deployed peers write it.
+pub const READING_DEPLOYED: u32 = 0;
+
+/// The peer's version line is read by the letter of RFC 4253 section 4.2.
+pub const READING_STRICT: u32 = 1;
+
 #[repr(C)]
 #[derive(Clone, Copy)]
 pub struct SideInput<'a> {
@@ -63,6 +69,7 @@ pub struct SideInput<'a> {
     pub exchange_random: Bytes<'a>,
     pub padding_seed: Bytes<'a>,
     pub strict: u32,
+    pub reading: u32,
 }
 
 #[repr(C)]

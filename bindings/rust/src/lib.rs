@@ -31,6 +31,27 @@ pub struct Draws {
     pub padding_seed: [u8; 32],
 }
 
+/// By which grammar an endpoint reads its peer's version line. A line that isn't taken ends it as F1. What it sends itself is
+/// the same by either.
+#[derive(Clone, Copy, Debug, Default, PartialEq, Eq)]
+pub enum PeerReading {
+    /// As deployed peers write it: what the letter takes, and a line with minus signs in its softwareversion, or ended by LF
+    /// alone; a client takes `SSH-1.99-` as 2.0 (RFC 4253 section 5.1).
+    #[default]
+    Deployed,
+    /// By the letter of RFC 4253 section 4.2.
+    Strict,
+}
+
+impl PeerReading {
+    fn number(self) -> u32 {
+        match self {
+            PeerReading::Deployed => door::READING_DEPLOYED,
+            PeerReading::Strict => door::READING_STRICT,
+        }
+    }
+}
+
 /// What both sides list. A list of names is its text, with single commas between.
 pub struct Side {
     /// The softwareversion of the version line.
@@ -43,6 +64,8 @@ pub struct Side {
     pub macs: String,
     /// Whether the side is willing to be strict.
     pub strict: bool,
+    /// By which grammar the peer's version line is read.
+    pub reading: PeerReading,
 }
 
 impl Default for Side {
@@ -56,6 +79,7 @@ impl Default for Side {
             macs: "hmac-sha2-256-etm@openssh.com,hmac-sha2-512-etm@openssh.com,hmac-sha2-256,hmac-sha2-512,hmac-sha1"
                 .into(),
             strict: true,
+            reading: PeerReading::default(),
         }
     }
 }
@@ -75,6 +99,7 @@ impl Side {
             exchange_random: Bytes::new(&draws.exchange_random),
             padding_seed: Bytes::new(&draws.padding_seed),
             strict: if self.strict { door::STRICT_YES } else { door::STRICT_NO },
+            reading: self.reading.number(),
         }
     }
 }

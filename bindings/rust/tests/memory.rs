@@ -1,7 +1,8 @@
 //! A client and a server meet in memory.
 
 use rezdolin::{
-    Client, ClientParts, Draws, End, Fed, LinkFault, Proof, Question, Refused, Server, ServerParts, public_key,
+    Client, ClientParts, Draws, End, Fed, LinkFault, PeerReading, Proof, Question, Refused, Server, ServerParts,
+    public_key,
 };
 
 const HOST: [u8; 32] = [9; 32];
@@ -98,6 +99,23 @@ fn parts_are_refused() {
         let mut client = Client::new(draws(1), "al", vec![Proof::Key(vec![9; len])], vec![]);
         assert_eq!(client.feed(b"", &mut Vec::new()), Err(Refused::Config(14)));
     }
+}
+
+#[test]
+fn version_lines_are_read_as_deployed_or_by_the_letter() {
+    let read = |line: &[u8], reading| {
+        let mut parts = (ClientParts::new(draws(1), "al", vec![], vec![]), ServerParts::new(draws(5), HOST, vec![]));
+        (parts.0.side.reading, parts.1.side.reading) = (reading, reading);
+        let (mut client, mut server) = (Client::from(parts.0), Server::from(parts.1));
+        client.feed(line, &mut Vec::new()).unwrap();
+        server.feed(line, &mut Vec::new()).unwrap();
+        (client.end(), server.end())
+    };
+    let refused = End::Failed { fault: 1, detail: 0 };
+    assert_eq!(read(b"SSH-2.0-a-b\r\n", PeerReading::default()), (End::Open, End::Open));
+    assert_eq!(read(b"SSH-2.0-a-b\r\n", PeerReading::Strict), (refused, refused));
+    assert_eq!(read(b"SSH-1.99-a\r\n", PeerReading::Deployed), (End::Open, refused));
+    assert_eq!(read(b"SSH-2.0-a\r\n", PeerReading::Strict), (End::Open, End::Open));
 }
 
 #[test]

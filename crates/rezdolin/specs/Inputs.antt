@@ -3,13 +3,15 @@
 use Rattle.std.specs.Prelude.{ℕ, ◌==◌, if◌then◌else◌, List, [], ◌∷◌, codes, length, map, Option, None, Some}
 use Rattle.std.specs.List.{AllByRecursion, slice_split}
 use Rattle.std.specs.Str.{IsUtf8}
+use Rattle.sshcore.specs.declared.config_parts.PeerReading.{PeerReading}
+use Rattle.sshcore.specs.declared.config_parts.PeerReading.TheVariants.{Strict, Deployed}
 use Rattle.sshcore.specs.ConfigParts.{AttemptData, ByKey, ByNothing, ByPassword, ClientData, CredentialData, HostKeyData, ServerData, SideData}
 use Rattle.rezdolin.specs.declared.inputs.AttemptInput.{AttemptInput}
 use Rattle.rezdolin.specs.declared.inputs.ClientInput.{ClientInput}
 use Rattle.rezdolin.specs.declared.inputs.HostKeyInput.{HostKeyInput}
 use Rattle.rezdolin.specs.declared.inputs.ServerInput.{ServerInput}
 use Rattle.rezdolin.specs.declared.inputs.SideInput.{SideInput}
-use Rattle.rezdolin.specs.declared.inputs.TheConstants.{IGNORED_LIMIT, METHOD_NONE, METHOD_PASSWORD, STRICT_YES}
+use Rattle.rezdolin.specs.declared.inputs.TheConstants.{IGNORED_LIMIT, METHOD_NONE, METHOD_PASSWORD, READING_STRICT, STRICT_YES}
 use Rattle.rezdolin.specs.Readable.{IsMethod}
 
 -- no bytes are nothing
@@ -24,10 +26,15 @@ between_commas text = slice_split (λ b. b == 44) text
 abbrev pub names_of : List ℕ → List (List ℕ)
 names_of list = if length list == 0 then [] else between_commas list
 
+-- by which grammar the peer's version line is read, by its number
+abbrev pub reading_by : ℕ → PeerReading
+reading_by number = if number == READING_STRICT then Strict else Deployed
+
 abbrev pub side_of : SideInput → SideData
 side_of side = record {
   softwareversion = side.softwareversion.now;
   comments = unless_empty side.comments.now;
+  reading = reading_by side.reading;
   kex_algorithms = names_of side.kex_algorithms.now;
   encryption_client_to_server = names_of side.encryption_client_to_server.now;
   encryption_server_to_client = names_of side.encryption_server_to_client.now;

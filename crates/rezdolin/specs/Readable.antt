@@ -6,11 +6,15 @@ use Rattle.rezdolin.specs.declared.inputs.AttemptInput.{AttemptInput}
 use Rattle.rezdolin.specs.declared.inputs.ClientInput.{ClientInput}
 use Rattle.rezdolin.specs.declared.inputs.ServerInput.{ServerInput}
 use Rattle.rezdolin.specs.declared.inputs.UserInput.{UserInput}
-use Rattle.rezdolin.specs.declared.inputs.TheConstants.{METHOD_NONE, METHOD_PASSWORD, METHOD_PUBLICKEY, STRICT_NO, STRICT_YES}
+use Rattle.rezdolin.specs.declared.inputs.TheConstants.{METHOD_NONE, METHOD_PASSWORD, METHOD_PUBLICKEY, READING_DEPLOYED, READING_STRICT, STRICT_NO, STRICT_YES}
 
 -- a side tells whether it is willing to be strict: the number isn't left out
 abbrev pub IsStrictness : ℕ → Type 0
 IsStrictness number = (number ≡ STRICT_YES) ⊎ (number ≡ STRICT_NO)
+
+-- a side tells by which grammar it reads its peer's version line, or leaves that out: as deployed peers write it is 0
+abbrev pub IsPeerReading : ℕ → Type 0
+IsPeerReading number = (number ≡ READING_DEPLOYED) ⊎ (number ≡ READING_STRICT)
 
 -- a method is one of the three, none of which is 0
 abbrev pub IsMethod : ℕ → Type 0
@@ -31,6 +35,7 @@ pub record IsEntry (entry : UserInput) : Type 0 where
 -- a client's numbers
 pub record IsClientRead (client : ClientInput) : Type 0 where
   pub strict : IsStrictness client.side.strict
+  pub reading : IsPeerReading client.side.reading
   pub guess : client.guess ≤ 1
   pub asks : client.asks ≤ 1
   pub plan : AllByRecursion IsAttempt client.plan.now
@@ -38,5 +43,6 @@ pub record IsClientRead (client : ClientInput) : Type 0 where
 -- a server's numbers, and its entries where they are read
 pub record IsServerRead (server : ServerInput) : Type 0 where
   pub strict : IsStrictness server.side.strict
+  pub reading : IsPeerReading server.side.reading
   pub asks : server.asks ≤ 1
   pub users : server.asks ≢ 1 → AllByRecursion IsEntry server.users.now

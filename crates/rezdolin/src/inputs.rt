@@ -34,6 +34,9 @@ pub struct SideInput<'a> {
     pub padding_seed: &'a [u8],
     /// Whether the side is willing to be strict (OpenSSH PROTOCOL section 1.10): [`STRICT_YES`] or [`STRICT_NO`].
     pub strict: u32,
+    /// By which grammar the peer's version line is read ([`PeerReading`](sshcore::PeerReading)): [`READING_DEPLOYED`] or
+    /// [`READING_STRICT`].
+    pub reading: u32,
 }
 
 /// The side is willing to be strict.
@@ -41,6 +44,12 @@ pub const STRICT_YES: u32 = 1;
 
 /// The side isn't willing to be strict. It isn't 0, so that a field which was forgotten doesn't say it.
 pub const STRICT_NO: u32 = 2;
+
+/// The peer's version line is read as deployed peers write it. It is 0, so that it is the default: it accepts nobody.
+pub const READING_DEPLOYED: u32 = 0;
+
+/// The peer's version line is read by the letter of RFC 4253 section 4.2.
+pub const READING_STRICT: u32 = 1;
 
 /// One attempt of a client's plan (RFC 4252 section 5).
 #[repr(C)]

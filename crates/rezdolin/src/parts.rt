@@ -8,17 +8,17 @@ ghost use Rattle.sshcore.specs.ConfigView.{attempt_data, client_data, credential
 ghost use Rattle.sshcore.specs.SuiteFit.{client_asked, server_asked, suite_fault_data};
 ghost use Rattle.rezdolin.specs.declared.parts.NoConfig.TheVariants as no;
 ghost use Rattle.rezdolin.specs.declared.texts.InputFault.TheVariants as fault;
-ghost use Rattle.rezdolin.specs.Inputs.{AreAttemptTexts, AreClientTexts, AreServerTexts, AreSideTexts, attempt_by, client_of, host_key_by, proving_by, server_of, side_of, user_algorithms};
+ghost use Rattle.rezdolin.specs.Inputs.{AreAttemptTexts, AreClientTexts, AreServerTexts, AreSideTexts, attempt_by, client_of, host_key_by, proving_by, reading_by, server_of, side_of, user_algorithms};
 ghost use Rattle.rezdolin.specs.Refusals.{IsDeployed, IsUnfit, RefusesClient, RefusesServer, unfit_number};
 
 use crate::inputs::{
     AttemptInput, ClientInput, HostKeyInput, IGNORED_LIMIT, METHOD_NONE, METHOD_PASSWORD,
-    METHOD_PUBLICKEY, STRICT_YES, ServerInput, SideInput,
+    METHOD_PUBLICKEY, READING_STRICT, STRICT_YES, ServerInput, SideInput,
 };
 use crate::texts::{InputFault, bytes_in, copies_of, names_of, text_in, text_of};
 use sshcore::{
-    Attempt, ClientConfig, ClientParts, ConfigFault, Credential, HostKey, ServerConfig,
-    ServerParts, SideParts, SuiteFault,
+    Attempt, ClientConfig, ClientParts, ConfigFault, Credential, HostKey, PeerReading,
+    ServerConfig, ServerParts, SideParts, SuiteFault,
 };
 use sshsuite::DeployedSuite;
 use sshwire::Memory;
@@ -247,6 +247,7 @@ fn side_parts(alloc: Global, side: &SideInput<'_>) -> Result<SideParts, InputFau
     Ok(SideParts {
         softwareversion,
         comments,
+        reading: reading_by(side.reading),
         kex_algorithms,
         encryption_client_to_server,
         encryption_server_to_client,
@@ -258,6 +259,17 @@ fn side_parts(alloc: Global, side: &SideInput<'_>) -> Result<SideParts, InputFau
         padding_seed: draws.padding_seed,
         ignored_limit: Some(IGNORED_LIMIT),
     })
+}
+
+/// By which grammar the peer's version line is read, by its number.
+fn reading_by(number: u32) -> PeerReading
+    ensures { result ≡ reading_by number }
+{
+    if number == READING_STRICT {
+        PeerReading::Strict
+    } else {
+        PeerReading::Deployed
+    }
 }
 
 /// What a side has drawn, of whatever lengths.

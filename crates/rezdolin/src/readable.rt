@@ -5,11 +5,11 @@
 
 ghost use Rattle.std.specs.Prelude.{◌≡◌, false, true};
 ghost use Rattle.std.specs.List.{AllByRecursion};
-ghost use Rattle.rezdolin.specs.Readable.{IsAttempt, IsClientRead, IsEntry, IsMethod, IsServerRead, IsStrictness};
+ghost use Rattle.rezdolin.specs.Readable.{IsAttempt, IsClientRead, IsEntry, IsMethod, IsPeerReading, IsServerRead, IsStrictness};
 
 use crate::inputs::{
-    AttemptInput, ClientInput, METHOD_NONE, METHOD_PASSWORD, METHOD_PUBLICKEY, STRICT_NO,
-    STRICT_YES, ServerInput, UserInput,
+    AttemptInput, ClientInput, METHOD_NONE, METHOD_PASSWORD, METHOD_PUBLICKEY, READING_DEPLOYED,
+    READING_STRICT, STRICT_NO, STRICT_YES, ServerInput, UserInput,
 };
 
 /// Whether the numbers of a client can be read.
@@ -18,6 +18,7 @@ pub(crate) fn is_client_read(client: &ClientInput<'_>) -> bool
     ensures no { result ≡ false → IsClientRead client.now → ⊥ }
 {
     is_strictness(client.side.strict)
+        && is_peer_reading(client.side.reading)
         && client.guess <= 1
         && client.asks <= 1
         && are_attempts(client.plan)
@@ -29,6 +30,7 @@ pub(crate) fn is_server_read(server: &ServerInput<'_>) -> bool
     ensures no { result ≡ false → IsServerRead server.now → ⊥ }
 {
     is_strictness(server.side.strict)
+        && is_peer_reading(server.side.reading)
         && server.asks <= 1
         && (server.asks == 1 || are_entries(server.users))
 }
@@ -65,6 +67,14 @@ fn is_strictness(number: u32) -> bool
     ensures no { result ≡ false → IsStrictness number → ⊥ }
 {
     number == STRICT_YES || number == STRICT_NO
+}
+
+/// Whether a number names a grammar of the peer's version line.
+fn is_peer_reading(number: u32) -> bool
+    ensures yes { result ≡ true → IsPeerReading number }
+    ensures no { result ≡ false → IsPeerReading number → ⊥ }
+{
+    number == READING_DEPLOYED || number == READING_STRICT
 }
 
 /// Whether a number is one of a method.

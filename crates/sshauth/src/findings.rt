@@ -3,6 +3,7 @@
 use crate::clear_stream::Sent;
 use crate::fault::Fault;
 use crate::host_keys::is_rsa_key;
+use crate::refused::{LISTS, put_refused};
 use crate::report::Ended;
 use base64::engine::general_purpose::{STANDARD, STANDARD_NO_PAD};
 use sha2::{Digest, Sha256};
@@ -34,6 +35,7 @@ pub(crate) struct Findings<'a> {
 pub(crate) struct Told {
     version: bool,
     kexinit: bool,
+    refused: bool,
     host_key: bool,
 }
 
@@ -43,6 +45,7 @@ impl Told {
         Told {
             version: false,
             kexinit: false,
+            refused: false,
             host_key: false,
         }
     }
@@ -68,6 +71,12 @@ pub(crate) fn lines_of(
     {
         told.kexinit = true;
         put_kexinit(alloc, &mut text, payload, findings)?;
+    }
+    if let Some(refused) = &findings.theirs.refused
+        && !told.refused
+    {
+        told.refused = true;
+        put_refused(&mut text, refused)?;
     }
     if let Some(key) = findings.host_key
         && !told.host_key
@@ -127,44 +136,22 @@ fn kexinit_in<'a>(alloc: Global, payload: &'a [u8]) -> Result<Option<Box<KexInit
     }
 }
 
-/// Puts the lists by the names that they have in RFC 4253 section 7.1.
+/// Puts the lists, those of languages left out, by the names that they have in RFC 4253 section 7.1.
 fn put_lists(text: &mut String, kexinit: &KexInit<'_>) -> Result<(), AllocError> {
-    put_list(text, "kex_algorithms", &kexinit.kex_algorithms)?;
-    put_list(
-        text,
-        "server_host_key_algorithms",
+    let lists = [
+        &kexinit.kex_algorithms,
         &kexinit.server_host_key_algorithms,
-    )?;
-    put_list(
-        text,
-        "encryption_algorithms_client_to_server",
         &kexinit.encryption_client_to_server,
-    )?;
-    put_list(
-        text,
-        "encryption_algorithms_server_to_client",
         &kexinit.encryption_server_to_client,
-    )?;
-    put_list(
-        text,
-        "mac_algorithms_client_to_server",
         &kexinit.mac_client_to_server,
-    )?;
-    put_list(
-        text,
-        "mac_algorithms_server_to_client",
         &kexinit.mac_server_to_client,
-    )?;
-    put_list(
-        text,
-        "compression_algorithms_client_to_server",
         &kexinit.compression_client_to_server,
-    )?;
-    put_list(
-        text,
-        "compression_algorithms_server_to_client",
         &kexinit.compression_server_to_client,
-    )
+    ];
+    for (word, list) in LISTS.iter().zip(lists.iter()) {
+        put_list(text, word, list)?;
+    }
+    Ok(())
 }
 
 /// Puts a line with a list, its names with commas between.

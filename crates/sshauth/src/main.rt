@@ -20,6 +20,7 @@ mod key_lines;
 mod notices;
 mod parts;
 mod probe;
+mod refused;
 mod remote_output;
 mod report;
 mod session_stream;

@@ -120,10 +120,28 @@ pub(crate) fn put_shown(lines: &mut String, text: &[u8]) -> Result<(), AllocErro
     for byte in text {
         match byte {
             b' '..=b'~' => lines.push(char::from(*byte))?,
-            _ => write!(lines, "\\x{byte:02x}")?,
+            _ => put_number(lines, *byte)?,
         }
     }
     Ok(())
+}
+
+/// Puts bytes of a peer between quotes. A quote or a backslash among them stands as `\xNN` too, so the text gives each
+/// byte.
+pub(crate) fn put_quoted(lines: &mut String, text: &[u8]) -> Result<(), AllocError> {
+    lines.push('"')?;
+    for byte in text {
+        match byte {
+            b' ' | b'!' | b'#'..=b'[' | b']'..=b'~' => lines.push(char::from(*byte))?,
+            _ => put_number(lines, *byte)?,
+        }
+    }
+    lines.push('"')
+}
+
+/// Puts a byte as `\xNN`.
+fn put_number(lines: &mut String, byte: u8) -> Result<(), AllocError> {
+    write!(lines, "\\x{byte:02x}")
 }
 
 /// Puts the names of the methods that can continue, and whether the request was successful as one of several.

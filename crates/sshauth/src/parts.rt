@@ -228,6 +228,7 @@ fn side_of(alloc: Global, settings: &Settings<'_>) -> Result<SideParts, Fault> {
     Ok(SideParts {
         softwareversion,
         comments: None,
+        reading: settings.reading,
         kex_algorithms,
         encryption_client_to_server,
         encryption_server_to_client,

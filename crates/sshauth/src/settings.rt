@@ -1,5 +1,7 @@
 //! What the words say.
 
+use sshcore::PeerReading;
+
 /// Which side the program is.
 #[derive(Clone, Copy)]
 pub(crate) enum Job {
@@ -45,6 +47,8 @@ pub(crate) struct Settings<'a> {
     pub(crate) tries: u32,
     /// Whether the side is willing to be strict.
     pub(crate) strict: bool,
+    /// By which grammar the peer's version line is read.
+    pub(crate) reading: PeerReading,
     /// Whether a client sends its share with its first packet.
     pub(crate) guess: bool,
     /// Names with commas between.

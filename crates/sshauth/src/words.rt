@@ -3,6 +3,7 @@
 use crate::channel::COMMAND_LIMIT;
 use crate::settings::{Job, Settings};
 use crate::word_fault::WordFault;
+use sshcore::PeerReading;
 use std::alloc::Global;
 
 /// What the words ask for.
@@ -32,6 +33,7 @@ const CLIENT: &[&str] = &[
     "identity",
     "known-hosts",
     "host",
+    "reading",
     "guess",
     "exec",
 ];
@@ -48,6 +50,7 @@ const SERVER: &[&str] = &[
     "methods",
     "required",
     "tries",
+    "reading",
 ];
 
 /// Methods of key exchange where no word names others: both names of one, and one that older peers have.
@@ -187,6 +190,7 @@ fn settings_of<'a>(job: Job, given: &[Given<'a>]) -> Result<Settings<'a>, WordFa
     needs(job, given)?;
     let tries = tries_of(value_of(given, "tries"))?;
     let strict = flag_of("strict", value_of(given, "strict"), true)?;
+    let reading = reading_of("reading", value_of(given, "reading"))?;
     let guess = flag_of("guess", value_of(given, "guess"), false)?;
     let kex = known("kex", value_of(given, "kex").unwrap_or(KEX), KEX)?;
     let cipher = known(
@@ -209,6 +213,7 @@ fn settings_of<'a>(job: Job, given: &[Given<'a>]) -> Result<Settings<'a>, WordFa
         required: value_of(given, "required"),
         tries,
         strict,
+        reading,
         guess,
         kex,
         cipher,
@@ -288,6 +293,20 @@ fn flag_of<'a>(
             option,
             name,
             all: "yes,no",
+        }),
+    }
+}
+
+/// `strict` or `deployed`, which holds where no word says it.
+fn reading_of<'a>(option: &'a str, word: Option<&'a str>) -> Result<PeerReading, WordFault<'a>> {
+    match word {
+        None => Ok(PeerReading::Deployed),
+        Some("strict") => Ok(PeerReading::Strict),
+        Some("deployed") => Ok(PeerReading::Deployed),
+        Some(name) => Err(WordFault::Other {
+            option,
+            name,
+            all: "strict,deployed",
         }),
     }
 }

@@ -13,7 +13,7 @@ use Rattle.sshcore.specs.declared.table.Phase.{Phase}
 use Rattle.sshcore.specs.declared.table.Phase.TheVariants as phase
 use Rattle.sshcore.specs.Before.{strict_at}
 use Rattle.sshcore.specs.Brings.{Gives}
-use Rattle.sshcore.specs.Directions.{preamble_of, spells}
+use Rattle.sshcore.specs.Directions.{form_of, preamble_of, spells}
 use Rattle.sshcore.specs.EndData.{Open, goes}
 use Rattle.sshcore.specs.Exchange.{keys_at}
 use Rattle.sshcore.specs.History.{History}
@@ -35,8 +35,8 @@ use Rattle.sshcore.proofs.PlanLemmas.{no_successful_key}
 use Rattle.sshcore.proofs.SendingLemmas as sending_lemmas
 use Rattle.sshcore.proofs.StandingLemmas as standing
 
-first_input : (m : SuiteData) (role : Side) (party : ConfigData) (i : Input) → Begins role i → IsInput m role party [] [] i
-first_input m role party (input.Lines reader) b = (refl, b.0)
+first_input : (m : SuiteData) (role : Side) (party : ConfigData) (i : Input) → Begins role (form_of party.reading role) i → IsInput m role party [] [] i
+first_input m role party (input.Lines reader) b = (refl, b.0, b.1)
 first_input m role party (input.Packets reader) b = absurd b
 
 -- nothing was sent, and nothing is sealed
@@ -49,7 +49,7 @@ not_past : (p : Phase) → p ≡ phase.KexInit → past_kexinit p ≡ true → �
 not_past p e past = true≢false (sym past ∙ ap past_kexinit e)
 
 module _ (below : Below) (streams : Streams) (setup : Setup) (new : StateData) (i : Input) (lines sent : List ℕ) (strict : Bool) (next : KeysData) where
-  pub begins_stands : new ≡ record (begun setup.config) { sending = new.sending } → Gives setup.suite setup.config.seed strict next (begun setup.config) new lines sent (goes (making setup.suite setup.role setup.config)) → lines ≡ preamble_of setup.config → Begins setup.role i
+  pub begins_stands : new ≡ record (begun setup.config) { sending = new.sending } → Gives setup.suite setup.config.seed strict next (begun setup.config) new lines sent (goes (making setup.suite setup.role setup.config)) → lines ≡ preamble_of setup.config → Begins setup.role (form_of setup.config.reading setup.role) i
       → EndpointStands setup new i [] sent
   begins_stands is gives lines_are reads =
       let first = making setup.suite setup.role setup.config in

@@ -6,14 +6,15 @@ use Rattle.std.proofs.lemmas.List.{append-nil}
 use Rattle.sshneg.specs.declared.side.Side.{Side}
 use Rattle.sshpacket.specs.Parse.{ProtectionData, Refusal, parse_packet, refused, unfinished, whole}
 use Rattle.sshpacket.specs.Places.{EachPlace, IsPrefix, flat_places}
-use Rattle.sshpacket.specs.PreambleParser.{preamble_parser}
+use Rattle.sshwire.specs.declared.line_form.LineForm.{LineForm}
+use Rattle.sshpacket.specs.PreambleParser.{preamble_parser_by}
 use Rattle.sshpacket.specs.Stream.{IsIncremental, Parser, Read, Received, Same, Sent, Units}
 use Rattle.sshpacket.specs.Suite.{SuiteData}
 use Rattle.sshpacket.proofs.Places.{each-append, each-push, flat-push}
 use Rattle.sshcore.specs.declared.end.Fault.{Fault}
 use Rattle.sshcore.specs.declared.table.Phase.TheVariants as phase
 use Rattle.sshcore.specs.Counting.{switched_out}
-use Rattle.sshcore.specs.Directions.{others_of, parsers, payloads_in, protection_in, spells}
+use Rattle.sshcore.specs.Directions.{form_of, others_of, parsers, payloads_in, protection_in, spells}
 use Rattle.sshcore.specs.EndData.{Authenticated, Closed, Disconnected, EndData, Failed, Open, disconnect}
 use Rattle.sshcore.specs.History.{AllFit, BrokenOff, FitsPacket, History, IsReady}
 use Rattle.sshcore.specs.EndpointParts.{ConfigData, Setup}
@@ -27,7 +28,7 @@ use Rattle.sshcore.proofs.StrictLaws.{begun_none, stands}
 -- the laws of streams that the lemmas here rest on
 pub record Streams : Type 0 where
   pub packets : (w : ProtectionData) → IsIncremental (parse_packet w)
-  pub lines : (k : ℕ) → IsIncremental (preamble_parser k)
+  pub lines : (form : LineForm) (k : ℕ) → IsIncremental (preamble_parser_by form k)
   pub nothing : (parsers : Units → Parser) → ((us : Units) → IsIncremental (parsers us)) → Received parsers [] [] [] None
   pub unit : (parsers : Units → Parser) → ((us : Units) → IsIncremental (parsers us)) → (stream piece : List ℕ) (us : Units) (rest u : List ℕ) (used : ℕ)
       → Received parsers stream us rest None → used ≤ length piece → parsers us (rest ++ piece) ≡ whole u (length rest + used) → Received parsers (stream ++ take used piece) (us ++ u ∷ []) [] None
@@ -66,7 +67,7 @@ is_open (Disconnected reason) = inr (λ e. absurd cc)
 
 module _ (streams : Streams) (m : SuiteData) (role : Side) (party : ConfigData) where
   pub each : (us : Units) → IsIncremental (parsers m role party us)
-  each [] = streams.lines (others_of role)
+  each [] = streams.lines (form_of party.reading role) (others_of role)
   each (version ∷ before) = streams.packets (protection_in m role party version before)
 
 module _ (below : Below) (streams : Streams) (setup : Setup) where

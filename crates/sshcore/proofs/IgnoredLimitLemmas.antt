@@ -1,7 +1,7 @@
 -- How much may still come that says nothing, with one payload more; and what is answered within it.
 
 use Rattle.std.proofs.Common.{◌≡◌, ◌⊎◌, inl, inr, ℕ, ◌+◌, ◌==◌, Bool, true, false, cond, List, [], ◌∷◌, ◌++◌, Option, None, Some, refl, sym, ap, ◌∙◌, arith}
-use Rattle.std.specs.Prelude.{◌-◌, ◌&&◌, not, sum}
+use Rattle.std.specs.Prelude.{◌&&◌, not, sum}
 use Rattle.std.proofs.lemmas.Bool.{cases_Bool, eq-eqb, true≢false}
 use Rattle.std.proofs.lemmas.List.{append-nil, append_assoc}
 use Rattle.std.proofs.lemmas.List.Sums.{sum_by_push}
@@ -22,7 +22,7 @@ use Rattle.sshcore.specs.Known.{Known}
 use Rattle.sshcore.specs.Phases.{leaving}
 use Rattle.sshcore.specs.Replies.{allowed}
 use Rattle.sshcore.specs.Table.{is_ignorable}
-use Rattle.sshcore.proofs.PhaseLemmas.{and_true, kept_free, stood_push}
+use Rattle.sshcore.proofs.PhaseLemmas.{kept_free, stood_push}
 
 and_false : (x : Bool) → (x && false) ≡ false
 and_false true = refl

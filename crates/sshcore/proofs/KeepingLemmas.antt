@@ -6,6 +6,7 @@ use Rattle.std.proofs.lemmas.Bool.{cases_Bool, eq-eqb, true≢false}
 use Rattle.std.proofs.lemmas.List.{drop-drop, length-drop}
 use Rattle.sshmsg.specs.declared.numbers.TheConstants.{SSH_MSG_USERAUTH_PK_OK}
 use Rattle.sshmsg.specs.Numbers.{kind}
+use Rattle.sshwire.specs.declared.line_form.LineForm.{LineForm}
 use Rattle.sshneg.specs.ChoiceReadings.{is_in}
 use Rattle.sshneg.specs.Fields.{AlgorithmsData}
 use Rattle.sshneg.specs.declared.side.Side.{Side}
@@ -225,9 +226,9 @@ begun_fits m role party new before after strict next is gives =
     })
 
 -- lines may be read then
-pub begins_reading : (m : SuiteData) (role : Side) (i : Input) → Begins role i → CanRead m i
-begins_reading m role (input.Lines reader) b = b.1
-begins_reading m role (input.Packets reader) b = absurd b
+pub begins_reading : (m : SuiteData) (role : Side) (form : LineForm) (i : Input) → Begins role form i → CanRead m i
+begins_reading m role form (input.Lines reader) b = b.2
+begins_reading m role form (input.Packets reader) b = absurd b
 
 -- What is kept of a rest of a plan, once it is paused: how many attempts it has, and whether the first was confirmed.
 drop_none : {X : Type 0} (k : ℕ) → ◌≡◌ {A = List X} (drop k []) []

@@ -5,19 +5,21 @@ use Rattle.std.proofs.lemmas.Bool.{true≢false}
 use Rattle.std.proofs.lemmas.List.{append-nil, length-take-le, take-append-drop}
 use Rattle.std.proofs.Math.Seq.{take-length}
 use Rattle.sshwire.specs.Feeding.{StandsOpen}
-use Rattle.sshwire.specs.LineReaderData.{Finished, LineReaderData, Progress, Refused, Waits}
-use Rattle.sshwire.specs.Lines.{LineRefused, Preamble}
+use Rattle.sshwire.specs.LineReaderData.{Finished, PeerLineReaderData, Progress, Refused, Waits}
+use Rattle.sshwire.specs.Lines.{LineRefusedBy, PreambleBy}
 use Rattle.sshwire.specs.declared.fault.WireFault.{WireFault}
+use Rattle.sshwire.specs.declared.line_form.LineForm.{LineForm}
 use Rattle.sshneg.specs.declared.side.Side.{Side}
 use Rattle.sshneg.specs.Markers.{other}
 use Rattle.sshpacket.specs.declared.reader.PacketReader.{PacketReader}
 use Rattle.sshpacket.specs.KeysData.{KeysData}
 use Rattle.sshpacket.specs.Parse.{OfLine, Parse, refused, unfinished, whole}
-use Rattle.sshpacket.specs.PreambleParser.{PreambleMeans, preamble_parser}
+use Rattle.sshpacket.specs.PreambleParser.{PreambleMeansBy, preamble_parser_by}
 use Rattle.sshpacket.specs.PacketReaderData.{packet_reader_data}
 use Rattle.sshpacket.specs.Stream.{Units}
 use Rattle.sshpacket.specs.Suite.{SuiteData}
 use Rattle.sshcore.specs.declared.end.Fault.TheVariants as fault
+use Rattle.sshcore.specs.declared.input.Received.{Received}
 use Rattle.sshcore.specs.declared.input.Received.TheVariants as received
 use Rattle.sshcore.specs.declared.input.Input.{Input}
 use Rattle.sshcore.specs.declared.input.Input.TheVariants as input
@@ -25,7 +27,7 @@ use Rattle.sshcore.specs.declared.table.Phase.{Phase}
 use Rattle.sshcore.specs.declared.table.Phase.TheVariants as phase
 use Rattle.sshcore.specs.Brings.{Gives}
 use Rattle.sshcore.specs.Counting.{number_in, switched_out}
-use Rattle.sshcore.specs.Directions.{keys_in, others_of, parsers, payloads_in, version_in}
+use Rattle.sshcore.specs.Directions.{form_of, keys_in, others_of, parsers, payloads_in, version_in}
 use Rattle.sshcore.specs.EndData.{Failed, Open, fails}
 use Rattle.sshcore.specs.Exchange.{keys_at}
 use Rattle.sshcore.specs.ReceivesLines.{ReceivesLines}
@@ -49,14 +51,14 @@ use Rattle.sshcore.proofs.UncutLemmas.{open_stays}
 
 -- the laws of lines that the lemmas here rest on
 pub record LineLaws : Type 0 where
-  pub only : (k : ℕ) (bytes : List ℕ) (f : Parse) → PreambleMeans k bytes f → preamble_parser k bytes ≡ f
-  pub preamble : (k : ℕ) (text bytes more : List ℕ) → Preamble k text bytes → preamble_parser k (bytes ++ more) ≡ whole text (length bytes)
+  pub only : (form : LineForm) (k : ℕ) (bytes : List ℕ) (f : Parse) → PreambleMeansBy form k bytes f → preamble_parser_by form k bytes ≡ f
+  pub preamble : (form : LineForm) (k : ℕ) (text bytes more : List ℕ) → PreambleBy form k text bytes → preamble_parser_by form k (bytes ++ more) ≡ whole text (length bytes)
 
 -- lines at which a reader stands open are unfinished
-open_unfinished : (laws : LineLaws) (k : ℕ) (bytes : List ℕ) (progress : Progress) → StandsOpen k bytes progress → preamble_parser k bytes ≡ unfinished
-open_unfinished laws k bytes (Waits left line) o = laws.only k bytes unfinished (left, line, o)
-open_unfinished laws k bytes Finished o = absurd o
-open_unfinished laws k bytes (Refused code) o = absurd o
+open_unfinished : (laws : LineLaws) (form : LineForm) (k : ℕ) (bytes : List ℕ) (progress : Progress) → StandsOpen k bytes progress → preamble_parser_by form k bytes ≡ unfinished
+open_unfinished laws form k bytes (Waits left line) o = laws.only form k bytes unfinished (left, line, o)
+open_unfinished laws form k bytes Finished o = absurd o
+open_unfinished laws form k bytes (Refused code) o = absurd o
 
 -- nothing sent
 gives_nothing : (m : SuiteData) (seed : List ℕ) (strict : Bool) (next : KeysData) (kept : StateData) (before : List ℕ)
@@ -94,31 +96,34 @@ module _ (below : Below) (streams : Streams) (setup : Setup) (h s : List ℕ) wh
   version_history (u ∷ us) rest answers none a piece version used low seen = absurd cc
 
 module _ (laws : LineLaws) (below : Below) (streams : Streams) (setup : Setup) (kept : StateData) (i : Input) (h s : List ℕ) (is : kept.end ≡ Open) (a : EndpointStands setup kept i h s) (none : a.units ≡ []) where
-  lines_are : (bytes : List ℕ) → parsers setup.suite setup.role setup.config a.units bytes ≡ preamble_parser (others_of setup.role) bytes
+  abbrev pub form : LineForm
+  form = form_of setup.config.reading setup.role
+
+  lines_are : (bytes : List ℕ) → parsers setup.suite setup.role setup.config a.units bytes ≡ preamble_parser_by form (others_of setup.role) bytes
   lines_are bytes = ap (λ (us : Units). parsers setup.suite setup.role setup.config us bytes) none
 
-  pub part_goes : (old new : LineReaderData) (piece before : List ℕ) → StandsOpen (others_of setup.role) (a.rest ++ piece) new.progress
+  pub part_goes : (old new : PeerLineReaderData) (piece before : List ℕ) → StandsOpen (others_of setup.role) (a.rest ++ piece) new.state.progress → new.form ≡ form
       → GoesOn setup kept (input.Lines new) h s (take (length piece) piece) before before
-  part_goes old new piece before stands = record {
+  part_goes old new piece before stands by_form = record {
     added = [];
     appended = sym (append-nil before);
     stands = subst (λ (t : List ℕ). EndpointStands setup kept (input.Lines new) (h ++ t) (s ++ [])) (sym (take-length piece))
         (subst (λ (t : List ℕ). EndpointStands setup kept (input.Lines new) (h ++ piece) t) (sym (append-nil s))
         (stands_part below streams setup kept i h s is a (input.Lines new) piece
-        (lines_are (a.rest ++ piece) ∙ open_unfinished laws (others_of setup.role) (a.rest ++ piece) new.progress stands) (none, stands)));
+        (lines_are (a.rest ++ piece) ∙ open_unfinished laws form (others_of setup.role) (a.rest ++ piece) new.state.progress stands) (none, stands, by_form)));
     uncut = open_stays kept.end is;
   }
 
   pub refused_goes : (next : KeysData) (j : Input) (piece before : List ℕ) (used place : ℕ) (code : WireFault) → used ≤ length piece → place + 1 ≡ length a.rest + used
-      → LineRefused (others_of setup.role) (a.rest ++ piece) place code
+      → LineRefusedBy form (others_of setup.role) (a.rest ++ piece) place code
       → GoesOn setup (record kept { end = Failed fault.Version }) j h s (take used piece) before before
   refused_goes next j piece before used place code low at refusal =
       let seen : parsers setup.suite setup.role setup.config a.units (a.rest ++ piece) ≡ refused (OfLine code) (length a.rest + used) =
-      lines_are (a.rest ++ piece) ∙ laws.only (others_of setup.role) (a.rest ++ piece) (refused (OfLine code) (length a.rest + used)) (place, sym at, refusal) in
+      lines_are (a.rest ++ piece) ∙ laws.only form (others_of setup.role) (a.rest ++ piece) (refused (OfLine code) (length a.rest + used)) (place, sym at, refusal) in
       stands_refused below streams setup kept i h s is a (record kept { end = Failed fault.Version }) j piece used (OfLine code) before before false next low seen
       (gives_nothing setup.suite setup.config.seed false next kept before)
 
-  pub version_goes : (q : PacketReader) (piece before version : List ℕ) (used : ℕ) → used ≤ length piece → Preamble (others_of setup.role) version (a.rest ++ take used piece)
+  pub version_goes : (q : PacketReader) (piece before version : List ℕ) (used : ℕ) → used ≤ length piece → PreambleBy form (others_of setup.role) version (a.rest ++ take used piece)
       → packet_reader_data q ≡ record { keys = None; seq = 0; held = []; fault = None }
       → GoesOn setup (record kept { known = record kept.known { version = version } }) (input.Packets q) h s (take used piece) before before
   version_goes q piece before version used low preamble fresh =
@@ -126,8 +131,8 @@ module _ (laws : LineLaws) (below : Below) (streams : Streams) (setup : Setup) (
       let all : bytes ++ drop used piece ≡ a.rest ++ piece = append_assoc a.rest (take used piece) (drop used piece) ∙ ap (λ (l : List ℕ). a.rest ++ l) (take-append-drop used piece) in
       let size : length bytes ≡ length a.rest + used = length-append a.rest (take used piece) ∙ ap (λ n. length a.rest + n) (length-take-le used piece low) in
       let seen : parsers setup.suite setup.role setup.config a.units (a.rest ++ piece) ≡ whole version (length a.rest + used) =
-      lines_are (a.rest ++ piece) ∙ ap (λ (l : List ℕ). preamble_parser (others_of setup.role) l) (sym all)
-      ∙ laws.preamble (others_of setup.role) version bytes (drop used piece) preamble ∙ ap (λ n. whole version n) size in
+      lines_are (a.rest ++ piece) ∙ ap (λ (l : List ℕ). preamble_parser_by form (others_of setup.role) l) (sym all)
+      ∙ laws.preamble form (others_of setup.role) version bytes (drop used piece) preamble ∙ ap (λ n. whole version n) size in
       let w = within below streams setup kept i h s is a in
       let sits : Sits setup [] [] kept.phase kept.guess kept.known = subst (λ (us : Units). Sits setup (version_in us) (payloads_in us) kept.phase kept.guess kept.known) none w.sits in
       let p = first_phase setup kept.phase kept.guess kept.known sits in
@@ -174,35 +179,42 @@ module _ (laws : LineLaws) (below : Below) (streams : Streams) (setup : Setup) (
         uncut = open_stays kept.end is;
       }
 
-module _ (laws : LineLaws) (below : Below) (streams : Streams) (setup : Setup) (next : KeysData) (old : LineReaderData) (kept : StateData) (piece before : List ℕ) (is : kept.end ≡ Open) where
+-- what came of lines is that of the same reader and answer by other names
+pub named_lines : (k : ℕ) (bytes : List ℕ) (new : PeerLineReaderData) (kept last : StateData) (piece : List ℕ) {r q : PeerLineReaderData} {x y : Received} → r ≡ q → x ≡ y
+    → ReceivesLines r.form k bytes new.state kept last piece x → ReceivesLines q.form k bytes new.state kept last piece y
+named_lines k bytes new kept last piece {r = r} {y = y} e f came =
+    subst (λ (z : PeerLineReaderData). ReceivesLines z.form k bytes new.state kept last piece y) e
+    (subst (λ (z : Received). ReceivesLines r.form k bytes new.state kept last piece z) f came)
+
+module _ (laws : LineLaws) (below : Below) (streams : Streams) (setup : Setup) (next : KeysData) (old : PeerLineReaderData) (kept : StateData) (piece before : List ℕ) (is : kept.end ≡ Open) where
   goes_as : (new last : StateData) (j : Input) (h s : List ℕ) (n k : ℕ) → last ≡ new → k ≡ n → GoesOn setup new j h s (take n piece) before before → GoesOn setup last j h s (take k piece) before before
   goes_as new last j h s n k e f g =
       subst (λ (x : ℕ). GoesOn setup last j h s (take x piece) before before) (sym f) (subst (λ (x : StateData). GoesOn setup x j h s (take n piece) before before) (sym e) g)
 
   -- the version line hasn't come
-  pub lines_part : (new : LineReaderData) (last : StateData) (used : ℕ) → ((k : ℕ) (bytes : List ℕ) → StandsOpen k bytes old.progress → ReceivesLines k bytes new kept last piece (received.Part used))
+  pub lines_part : (new : PeerLineReaderData) (last : StateData) (used : ℕ) → ((k : ℕ) (bytes : List ℕ) → StandsOpen k bytes old.state.progress → ReceivesLines old.form k bytes new.state kept last piece (received.Part used)) → new.form ≡ old.form
       → Steps setup (input.Lines old) kept (input.Lines new) last (take used piece) before before
-  lines_part new last used receives h s a =
+  lines_part new last used receives same h s a =
       let w = within below streams setup kept (input.Lines old) h s is a in
       let x = receives (others_of setup.role) a.rest w.reads.1 in
       goes_as kept last (input.Lines new) h s (length piece) used x.2 x.1
-      (part_goes laws below streams setup kept (input.Lines old) h s is a w.reads.0 old new piece before x.0)
+      (part_goes laws below streams setup kept (input.Lines old) h s is a w.reads.0 old new piece before x.0 (same ∙ w.reads.2))
 
   -- a line is refused
-  pub lines_refused : (new : LineReaderData) (j : Input) (last : StateData) (used : ℕ) → ((k : ℕ) (bytes : List ℕ) → StandsOpen k bytes old.progress → ReceivesLines k bytes new kept last piece (received.Refused used))
+  pub lines_refused : (new : PeerLineReaderData) (j : Input) (last : StateData) (used : ℕ) → ((k : ℕ) (bytes : List ℕ) → StandsOpen k bytes old.state.progress → ReceivesLines old.form k bytes new.state kept last piece (received.Refused used))
       → Steps setup (input.Lines old) kept j last (take used piece) before before
   lines_refused new j last used receives h s a =
       let w = within below streams setup kept (input.Lines old) h s is a in
       let x = receives (others_of setup.role) a.rest w.reads.1 in
       goes_as (record kept { end = Failed fault.Version }) last j h s used used x.5 refl
-      (refused_goes laws below streams setup kept (input.Lines old) h s is a w.reads.0 next j piece before used x.0 x.1 x.4 x.2 x.3)
+      (refused_goes laws below streams setup kept (input.Lines old) h s is a w.reads.0 next j piece before used x.0 x.1 x.4 x.2 (subst (λ (f : LineForm). LineRefusedBy f (others_of setup.role) (a.rest ++ piece) x.0 x.1) w.reads.2 x.3))
 
   -- the version line has come
-  pub lines_whole : (new : LineReaderData) (q : PacketReader) (last : StateData) (used : ℕ) → ((k : ℕ) (bytes : List ℕ) → StandsOpen k bytes old.progress → ReceivesLines k bytes new kept last piece (received.Whole used))
+  pub lines_whole : (new : PeerLineReaderData) (q : PacketReader) (last : StateData) (used : ℕ) → ((k : ℕ) (bytes : List ℕ) → StandsOpen k bytes old.state.progress → ReceivesLines old.form k bytes new.state kept last piece (received.Whole used))
       → packet_reader_data q ≡ record { keys = None; seq = 0; held = []; fault = None }
       → Steps setup (input.Lines old) kept (input.Packets q) last (take used piece) before before
   lines_whole new q last used receives fresh h s a =
       let w = within below streams setup kept (input.Lines old) h s is a in
       let x = receives (others_of setup.role) a.rest w.reads.1 in
       goes_as (record kept { known = record kept.known { version = x.0 } }) last (input.Packets q) h s used used x.3 refl
-      (version_goes laws below streams setup kept (input.Lines old) h s is a w.reads.0 q piece before x.0 used x.2 x.1 fresh)
+      (version_goes laws below streams setup kept (input.Lines old) h s is a w.reads.0 q piece before x.0 used x.2 (subst (λ (f : LineForm). PreambleBy f (others_of setup.role) x.0 (a.rest ++ take used piece)) w.reads.2 x.1) fresh)

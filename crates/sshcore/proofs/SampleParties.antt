@@ -11,6 +11,7 @@ use Rattle.sshneg.specs.Strictness.{marked_list}
 use Rattle.sshpacket.specs.declared.suite.Need.TheVariants.{Signature}
 use Rattle.sshpacket.specs.Packet.{number}
 use Rattle.sshpacket.specs.Suite.{SuiteData}
+use Rattle.sshcore.specs.declared.config_parts.PeerReading.TheVariants.{Strict}
 use Rattle.sshcore.specs.EndpointParts.{ConfigData, DecisionsData}
 
 -- A suite that can be seen through: a digest is the last byte but one of its input, so that a key is its letter; a public key
@@ -58,6 +59,7 @@ unfoldable pub config_data : Side → Bool → List (List ℕ) → Bool → Conf
 config_data role strict kex follows = record {
   version = codes "SSH-2.0-lab_1";
   notices = [];
+  reading = Strict;
   offer = kexinit_data (marked_list role strict kex) follows;
   strict = strict;
   random = 9 ∷ [];

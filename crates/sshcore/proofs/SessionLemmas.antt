@@ -6,7 +6,7 @@ use Rattle.std.proofs.lemmas.Bool.{and_parts, cases_Bool, eq-eqb, eqb-true, true
 use Rattle.std.proofs.lemmas.List.{append-nil}
 use Rattle.sshwire.specs.declared.share_form.ShareForm.{ShareForm}
 use Rattle.sshwire.specs.declared.share_form.ShareForm.TheVariants.{Hybrid, Mpint, OctetString}
-use Rattle.sshwire.specs.LineReaderData.{LineReaderData}
+use Rattle.sshwire.specs.LineReaderData.{PeerLineReaderData}
 use Rattle.sshmsg.specs.declared.fault.MsgFault.{MsgFault}
 use Rattle.sshmsg.specs.MessageData.{KexEcdhInit, KexEcdhReply, KexdhInit, KexdhReply, MessageData, NewKeys, ServiceRequest, method_name}
 use Rattle.sshmsg.specs.Messages.{message_in}
@@ -284,7 +284,7 @@ module _ (below : Below) (setup : Setup) where
       }
 
   -- an endpoint that ended authenticated reads packets
-  none_by_lines : (kept : StateData) (i : Input) (reader : LineReaderData) → i ≡ input.Lines reader → (h s : List ℕ) (p : EndpointStands setup kept i h s) (a : AgreedData) → kept.end ≡ Authenticated a → ⊥
+  none_by_lines : (kept : StateData) (i : Input) (reader : PeerLineReaderData) → i ≡ input.Lines reader → (h s : List ℕ) (p : EndpointStands setup kept i h s) (a : AgreedData) → kept.end ≡ Authenticated a → ⊥
   none_by_lines kept (input.Lines r) reader same h s p a is =
       let e = ended_so kept (input.Lines r) h s p a is in
       let none : p.units ≡ [] = (inside kept (input.Lines r) h s p a is).reads.0 in

@@ -6,6 +6,7 @@ use Rattle.sshmsg.specs.MessageData.{KexInitData}
 use Rattle.sshneg.specs.declared.side.Side.{Side}
 use Rattle.sshneg.specs.declared.side.Side.TheVariants.{Client, Server}
 use Rattle.sshneg.specs.Markers.{strict_marker}
+use Rattle.sshcore.specs.declared.config_parts.PeerReading.{PeerReading}
 
 -- how a client proves who its user is (RFC 4252 sections 5.2, 7 and 8): not at all, by a password, or by the private key
 -- of an algorithm, and whether it asks first if that key would do
@@ -29,6 +30,7 @@ pub record HostKeyData : Type 0 where
 pub record SideData : Type 0 where
   pub softwareversion : List ℕ
   pub comments : Option (List ℕ)
+  pub reading : PeerReading
   pub kex_algorithms : List (List ℕ)
   pub encryption_client_to_server : List (List ℕ)
   pub encryption_server_to_client : List (List ℕ)

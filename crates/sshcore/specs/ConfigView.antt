@@ -25,6 +25,7 @@ abbrev pub side_data : SideParts → SideData
 side_data parts = record {
   softwareversion = string_bytes parts.softwareversion;
   comments = option_map string_bytes parts.comments;
+  reading = parts.reading;
   kex_algorithms = map string_bytes parts.kex_algorithms.items;
   encryption_client_to_server = map string_bytes parts.encryption_client_to_server.items;
   encryption_server_to_client = map string_bytes parts.encryption_server_to_client.items;

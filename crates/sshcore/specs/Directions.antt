@@ -3,6 +3,9 @@
 
 use Rattle.std.specs.Prelude.{ℕ, if◌then◌else◌, List, [], ◌∷◌, ◌++◌, drop, flat_map, Option, None, Some}
 use Rattle.sshwire.specs.declared.limits.TheConstants.{OTHER_LINE_LIMIT}
+use Rattle.sshwire.specs.declared.line_form.LineForm.{LineForm}
+use Rattle.sshwire.specs.declared.line_form.LineForm.TheVariants as line_form
+use Rattle.sshwire.specs.declared.line_form.ReadBy.TheVariants as read_by
 use Rattle.sshwire.specs.Lines.{version_line}
 use Rattle.sshmsg.specs.declared.numbers.TheConstants.{SSH_MSG_NEWKEYS}
 use Rattle.sshneg.specs.declared.side.Side.{Side}
@@ -10,10 +13,12 @@ use Rattle.sshneg.specs.declared.side.Side.TheVariants.{Client, Server}
 use Rattle.sshneg.specs.Markers.{other}
 use Rattle.sshpacket.specs.KeysData.{KeysData}
 use Rattle.sshpacket.specs.Parse.{ProtectionData, parse_packet, protection}
-use Rattle.sshpacket.specs.PreambleParser.{preamble_parser}
+use Rattle.sshpacket.specs.PreambleParser.{preamble_parser_by}
 use Rattle.sshpacket.specs.Stream.{Parser, Units}
 use Rattle.sshpacket.specs.Suite.{SuiteData}
 use Rattle.sshpacket.specs.Written.{written_clear, written_sealed}
+use Rattle.sshcore.specs.declared.config_parts.PeerReading.{PeerReading}
+use Rattle.sshcore.specs.declared.config_parts.PeerReading.TheVariants.{Strict, Deployed}
 use Rattle.sshcore.specs.Before.{stood, strict_at}
 use Rattle.sshcore.specs.Counting.{number_in, number_out, switched_out}
 use Rattle.sshcore.specs.Exchange.{keys_at}
@@ -32,6 +37,12 @@ abbrev pub others_of : Side → ℕ
 others_of Client = OTHER_LINE_LIMIT
 others_of Server = 0
 
+-- which lines are a version line to a reader of this role
+abbrev pub form_of : PeerReading → Side → LineForm
+form_of Strict role = line_form.Strict
+form_of Deployed Client = line_form.Deployed read_by.Client
+form_of Deployed Server = line_form.Deployed read_by.Server
+
 -- the keys of what is received: none up to the key switch, which is the first NEWKEYS that isn't dropped (RFC 4253 section 7.3)
 abbrev pub keys_in : SuiteData → Side → ConfigData → List ℕ → Units → Option KeysData
 keys_in m role party version before =
@@ -43,7 +54,7 @@ protection_in m role party version before = protection m (keys_in m role party v
 
 -- how the next unit is read after these: lines first, then packets
 abbrev pub parsers : SuiteData → Side → ConfigData → Units → Parser
-parsers m role party [] = preamble_parser (others_of role)
+parsers m role party [] = preamble_parser_by (form_of party.reading role) (others_of role)
 parsers m role party (version ∷ before) = parse_packet (protection_in m role party version before)
 
 -- the lines that are sent first: notices and the version line

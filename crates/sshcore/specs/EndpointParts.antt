@@ -5,6 +5,7 @@ use Rattle.sshmsg.specs.MessageData.{KexInitData}
 use Rattle.sshneg.specs.declared.side.Side.{Side}
 use Rattle.sshneg.specs.declared.side.Side.TheVariants.{Client, Server}
 use Rattle.sshpacket.specs.Suite.{SuiteData}
+use Rattle.sshcore.specs.declared.config_parts.PeerReading.{PeerReading}
 use Rattle.sshcore.specs.ConfigParts.{AttemptData, ClientData, HostKeyData, ServerData, client_offer, server_offer, version_of}
 
 -- What an endpoint is made of. What its role doesn't have is empty: notices, host keys, services, methods, required
@@ -12,6 +13,7 @@ use Rattle.sshcore.specs.ConfigParts.{AttemptData, ClientData, HostKeyData, Serv
 pub record ConfigData : Type 0 where
   pub version : List ℕ
   pub notices : List (List ℕ)
+  pub reading : PeerReading
   pub offer : KexInitData
   pub strict : Bool
   pub random : List ℕ
@@ -30,6 +32,7 @@ abbrev pub config_of_client : ClientData → ConfigData
 config_of_client client = record {
   version = version_of client.side;
   notices = [];
+  reading = client.side.reading;
   offer = client_offer client;
   strict = client.side.strict;
   random = client.side.random;
@@ -49,6 +52,7 @@ abbrev pub config_of_server : ServerData → ConfigData
 config_of_server server = record {
   version = version_of server.side;
   notices = server.notices;
+  reading = server.side.reading;
   offer = server_offer server;
   strict = server.side.strict;
   random = server.side.random;

@@ -3,6 +3,7 @@
 use Rattle.std.specs.Prelude.{◌≡◌, ◌≢◌, ◌&&◌, ℕ, true, false, not, if◌then◌else◌, List, [], ◌∷◌, ◌++◌, length, Option, None, Some}
 use Rattle.sshwire.specs.Feeding.{StandsOpen}
 use Rattle.sshwire.specs.LineReaderData.{Finished, held}
+use Rattle.sshwire.specs.declared.line_form.LineForm.{LineForm}
 use Rattle.sshneg.specs.declared.side.Side.{Side}
 use Rattle.sshneg.specs.Markers.{other}
 use Rattle.sshpacket.specs.KeysData.{KeysData}
@@ -16,7 +17,7 @@ use Rattle.sshcore.specs.declared.input.Input.TheVariants as input
 use Rattle.sshcore.specs.declared.table.Phase.{Phase}
 use Rattle.sshcore.specs.Brings.{IsOngoing}
 use Rattle.sshcore.specs.Counting.{number_in}
-use Rattle.sshcore.specs.Directions.{keys_in, others_of, payloads_in, version_in}
+use Rattle.sshcore.specs.Directions.{form_of, keys_in, others_of, payloads_in, version_in}
 use Rattle.sshcore.specs.EndData.{Authenticated, Closed, Disconnected, EndData, Failed, Open, by_owner}
 use Rattle.sshcore.specs.Exchange.{exchange_at, keys_at}
 use Rattle.sshcore.specs.Exchanged.{HasForm}
@@ -30,12 +31,12 @@ use Rattle.sshcore.specs.Tries.{last_key, successful_keys_at}
 
 -- its reader may be given bytes
 abbrev pub CanRead : SuiteData → Input → Type 0
-CanRead m (input.Lines reader) = reader.progress ≢ Finished
+CanRead m (input.Lines reader) = reader.state.progress ≢ Finished
 CanRead m (input.Packets reader) = ReaderWaits m reader
 
 -- how many bytes of the unfinished line or packet it holds
 abbrev pub held_by : Input → ℕ
-held_by (input.Lines reader) = held reader.progress
+held_by (input.Lines reader) = held reader.state.progress
 held_by (input.Packets reader) = length (packet_reader_data reader).held
 
 -- A bound for the loop over the units of a piece: a turn that uses no byte of it lowers this, for it goes on from lines to
@@ -48,10 +49,11 @@ turns_left (Failed f) i = 0
 turns_left (Closed reason) i = 0
 turns_left (Disconnected reason) i = 0
 
--- The reader of what is received: of lines, up to the version line; then of packets, with the keys and the number of the next one,
--- and with the bytes of the unfinished one.
+-- The reader of what is received: of lines, in the form that its config has, up to the version line; then of packets, with
+-- the keys and the number of the next one, and with the bytes of the unfinished one.
 abbrev pub IsInput : SuiteData → Side → ConfigData → Units → List ℕ → Input → Type 0
-IsInput m role party units rest (input.Lines reader) = (units ≡ []) × StandsOpen (others_of role) rest reader.progress
+IsInput m role party units rest (input.Lines reader) =
+    (units ≡ []) × StandsOpen (others_of role) rest reader.state.progress × (reader.form ≡ form_of party.reading role)
 IsInput m role party units rest (input.Packets reader) =
     (version : List ℕ) × (before : Units) × (units ≡ version ∷ before)
     × (packet_reader_data reader ≡ record { keys = keys_in m role party version before; seq = number_in role party before; held = rest; fault = None })
@@ -104,7 +106,8 @@ pub record GoesOn (setup : Setup) (new : StateData) (j : Input) (h s taken befor
 abbrev pub Steps : Setup → Input → StateData → Input → StateData → List ℕ → List ℕ → List ℕ → Type 0
 Steps setup i old j new taken before after = (h s : List ℕ) → EndpointStands setup old i h s → GoesOn setup new j h s taken before after
 
--- before any byte is received
-abbrev pub Begins : Side → Input → Type 0
-Begins role (input.Lines reader) = (StandsOpen (others_of role) [] reader.progress) × (reader.progress ≢ Finished)
-Begins role (input.Packets reader) = ⊥
+-- before any byte is received, of a reader of lines of this form
+abbrev pub Begins : Side → LineForm → Input → Type 0
+Begins role form (input.Lines reader) =
+    (StandsOpen (others_of role) [] reader.state.progress) × (reader.form ≡ form) × (reader.state.progress ≢ Finished)
+Begins role form (input.Packets reader) = ⊥

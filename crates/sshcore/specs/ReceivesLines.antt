@@ -3,8 +3,9 @@
 use Rattle.std.specs.Prelude.{◌≡◌, ◌≢◌, ℕ, ◌+◌, ◌≤◌, List, ◌++◌, length, take}
 use Rattle.sshwire.specs.Feeding.{StandsOpen}
 use Rattle.sshwire.specs.LineReaderData.{Finished, LineReaderData, Progress}
-use Rattle.sshwire.specs.Lines.{LineRefused, Preamble}
+use Rattle.sshwire.specs.Lines.{LineRefusedBy, PreambleBy}
 use Rattle.sshwire.specs.declared.fault.WireFault.{WireFault}
+use Rattle.sshwire.specs.declared.line_form.LineForm.{LineForm}
 use Rattle.sshcore.specs.declared.end.Fault.TheVariants as fault
 use Rattle.sshcore.specs.declared.input.Received.{Received}
 use Rattle.sshcore.specs.declared.input.Received.TheVariants as received
@@ -17,16 +18,16 @@ used_by (received.Part used) = used
 used_by (received.Refused used) = used
 used_by (received.Whole used) = used
 
--- Of lines of which the reader stands open at these bytes: they stay unfinished; or they are refused, and the endpoint has failed;
--- or the version line ends in the piece, and is known.
-abbrev pub ReceivesLines : ℕ → List ℕ → LineReaderData → StateData → StateData → List ℕ → Received → Type 0
-ReceivesLines k bytes new old kept piece (received.Part used) =
+-- Of lines in this form, of which the reader stands open at these bytes: they stay unfinished; or they are refused, and the
+-- endpoint has failed; or the version line ends in the piece, and is known.
+abbrev pub ReceivesLines : LineForm → ℕ → List ℕ → LineReaderData → StateData → StateData → List ℕ → Received → Type 0
+ReceivesLines form k bytes new old kept piece (received.Part used) =
     StandsOpen k (bytes ++ piece) new.progress × (used ≡ length piece) × (kept ≡ old)
-ReceivesLines k bytes new old kept piece (received.Refused used) =
-    (place : ℕ) × (code : WireFault) × (place + 1 ≡ length bytes + used) × LineRefused k (bytes ++ piece) place code
+ReceivesLines form k bytes new old kept piece (received.Refused used) =
+    (place : ℕ) × (code : WireFault) × (place + 1 ≡ length bytes + used) × LineRefusedBy form k (bytes ++ piece) place code
     × (used ≤ length piece) × (kept ≡ record old { end = Failed fault.Version })
-ReceivesLines k bytes new old kept piece (received.Whole used) =
-    (version : List ℕ) × Preamble k version (bytes ++ take used piece) × (used ≤ length piece)
+ReceivesLines form k bytes new old kept piece (received.Whole used) =
+    (version : List ℕ) × PreambleBy form k version (bytes ++ take used piece) × (used ≤ length piece)
     × (kept ≡ record old { known = record old.known { version = version } })
 
 -- while the version line hasn't come the reader may be given more

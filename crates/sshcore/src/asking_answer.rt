@@ -113,7 +113,7 @@ fn answer_packet<S: Suite, L: Listener>(
     ensures kept { OnOk result (by_input (end_data state.new.end) ≡ true) }
     ensures memory { OnErr result (out.new.items ≡ out.old.items) }
 {
-    sshpacket::parser_law();
+    sshpacket::parser_by_law();
     sshpacket::stream_law();
     sshmsg::numbers_law();
     sshneg::markers_law();

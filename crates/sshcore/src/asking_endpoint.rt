@@ -143,14 +143,14 @@ impl<'a, S: Suite, L: Listener> AskingEndpoint<'a, S, L> {
         ensures made { IfOk result (λ e. AskingMade S.meaning (role_of config.entry) (config_data config.entry) suite.now e out.old.items out.new.items) }
         ensures memory { OnErr result (out.new.items ≡ out.old.items) }
     {
-        sshpacket::parser_law();
+        sshpacket::parser_by_law();
         sshpacket::stream_law();
         sshmsg::numbers_law();
         sshneg::markers_law();
         let mut state = State::new(alloc, &config);
         state.send_greeting(&config, suite, out)?;
         Ok(AskingEndpoint {
-            input: Input::new(alloc, config.role()),
+            input: Input::new(alloc, config.role(), config.line_form()),
             config,
             suite,
             listener,

@@ -53,7 +53,7 @@ impl Input {
         ensures keeps { OnOk result (StillFits (S.meaning suite.now) (config_data config.now) (state_data state.old) (state_data state.new)) }
         ensures kept { OnOk result (by_input (end_data state.new.end) ≡ true) }
     {
-        sshpacket::parser_law();
+        sshpacket::parser_by_law();
         sshpacket::stream_law();
         sshmsg::numbers_law();
         sshneg::markers_law();
@@ -112,7 +112,7 @@ fn ask_packets<S: Suite, L: Listener>(
     ensures keeps { OnOk result (StillFits (S.meaning suite.now) (config_data config.now) (state_data state.old) (state_data state.new)) }
     ensures kept { OnOk result (by_input (end_data state.new.end) ≡ true) }
 {
-    sshpacket::parser_law();
+    sshpacket::parser_by_law();
     sshpacket::stream_law();
     sshmsg::numbers_law();
     sshneg::markers_law();

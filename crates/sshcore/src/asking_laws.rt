@@ -95,7 +95,7 @@ pub fn asking_law<S: Suite, L: Listener, M: Listener>(
         × (strict_at one.now.role one.now.party (payloads_in a.stands.units) ≡ true → BeginsStrictly one.now.role one.now.party.offer (payloads_in a.stands.units)) }
 {
     sshmsg::numbers_law();
-    sshpacket::parser_law();
+    sshpacket::parser_by_law();
     sshpacket::stream_law();
     history_law();
     strict_law();
@@ -129,7 +129,7 @@ pub fn beside_law<S: Suite, L: Listener, D: Decisions>(
         → (h more s t : List ℕ) → AskingAfter S.meaning (D.policy endpoint.now.decisions) asking.now h s → EndpointAfter S.meaning D.policy endpoint.now (h ++ more) t → IsPrefix s t }
 {
     sshmsg::numbers_law();
-    sshpacket::parser_law();
+    sshpacket::parser_by_law();
     sshpacket::stream_law();
     history_law();
 }
@@ -147,6 +147,6 @@ pub fn dialogue_law<S: Suite, L: Listener>(endpoint: &AskingEndpoint<'_, S, L>)
         → (d : DecisionsData) → GiveAll d answers → AskingAfter S.meaning d endpoint.now h s }
 {
     sshmsg::numbers_law();
-    sshpacket::parser_law();
+    sshpacket::parser_by_law();
     sshpacket::stream_law();
 }

@@ -16,6 +16,7 @@ ghost use Rattle.sshcore.specs.ConfigRules.{IsAttempt};
 ghost use Rattle.sshcore.specs.EndpointParts.{config_of_client, config_of_server};
 ghost use Rattle.sshcore.specs.Redrawn.{redrawn_client, redrawn_server};
 ghost use Rattle.sshcore.specs.ConfigView.{attempt_data, host_key_data};
+ghost use Rattle.sshcore.specs.Directions.{form_of};
 ghost use Rattle.sshcore.specs.Exchange.{secret_of};
 ghost use Rattle.sshcore.specs.Work.{guessed_method};
 ghost use Rattle.sshwire.specs.Types.{AreNames, IsName, names_body};
@@ -23,12 +24,12 @@ ghost use Rattle.sshneg.specs.ChoiceReadings.{is_in};
 ghost use Rattle.sshneg.specs.Markers.{methods};
 
 use crate::client_config::ClientConfig;
-use crate::config_parts::{Attempt, HostKey, SideParts};
+use crate::config_parts::{Attempt, HostKey, PeerReading, SideParts};
 use crate::draws::Draws;
 use crate::server_config::ServerConfig;
 use sshmsg::KexInit;
 use sshneg::Side;
-use sshwire::{Memory, VersionLine};
+use sshwire::{LineForm, Memory, ReadBy, VersionLine};
 
 /// The config of an endpoint, which tells its role, and the draws of its connection.
 #[derive(Drop)]
@@ -50,6 +51,7 @@ impl<'a> Config<'a> {
     /// What both roles have, besides draws.
     pub(crate) fn side(&self) -> &'a SideParts
         ensures strict { result.now.strict ≡ (config_data self.now).strict }
+        ensures reading { result.now.reading ≡ (config_data self.now).reading }
         ensures ignored_limit { result.now.ignored_limit ≡ (config_data self.now).ignored_limit }
         // The methods are some names, and they are those of the KEXINIT, whose marker is no method.
         ensures methods { map string_bytes result.now.kex_algorithms.items ≡ methods (config_data self.now).offer.kex_algorithms }
@@ -59,6 +61,19 @@ impl<'a> Config<'a> {
         match self {
             Config::Client(client, _) => &client.parts().side,
             Config::Server(server, _) => &server.parts().side,
+        }
+    }
+
+    /// Which of the peer's lines is its version line.
+    pub(crate) fn line_form(&self) -> LineForm
+        ensures { result ≡ form_of (config_data self.now).reading (role_of self.now) }
+    {
+        match self.side().reading {
+            PeerReading::Strict => LineForm::Strict,
+            PeerReading::Deployed => LineForm::Deployed(match self.role() {
+                Side::Client => ReadBy::Client,
+                Side::Server => ReadBy::Server,
+            }),
         }
     }
 

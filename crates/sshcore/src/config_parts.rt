@@ -101,6 +101,18 @@ pub struct HostKey {
     pub private_key: Vec<u8>,
 }
 
+/// By which grammar an endpoint reads its peer's version line. What it sends itself is the same with
+/// either, and either side hashes a line as it came, without the CR LF or LF that ends it.
+#[derive(Clone, Copy, Debug, PartialEq, Eq)]
+pub enum PeerReading {
+    /// By the letter of RFC 4253 section 4.2, and 2.0 alone as the protocol's version (profile).
+    Strict,
+    /// As deployed peers write it: all that `Strict` takes, and a line with minus signs in its
+    /// softwareversion, or one that LF alone ends; and a client takes `SSH-1.99-` as 2.0, as RFC 4253
+    /// section 5.1 has it.
+    Deployed,
+}
+
 /// What the parts of both sides have.
 #[derive(Drop)]
 pub struct SideParts {
@@ -108,6 +120,8 @@ pub struct SideParts {
     pub softwareversion: String,
     /// The comments of the version line, if there are some.
     pub comments: Option<String>,
+    /// By which grammar the peer's version line is read.
+    pub reading: PeerReading,
     /// Key exchange methods, without markers; at least one. Like each list its text, which is the names
     /// with single commas between, has at most 1000 bytes.
     pub kex_algorithms: Vec<String>,

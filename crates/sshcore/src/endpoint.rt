@@ -161,14 +161,14 @@ impl<'a, S: Suite, D: Decisions> Endpoint<'a, S, D> {
         ensures made { IfOk result (λ e. EndpointMade S.meaning D.policy (role_of config.entry) (config_data config.entry) suite.now decisions.now e out.old.items out.new.items) }
         ensures memory { OnErr result (out.new.items ≡ out.old.items) }
     {
-        sshpacket::parser_law();
+        sshpacket::parser_by_law();
         sshpacket::stream_law();
         sshmsg::numbers_law();
         sshneg::markers_law();
         let mut state = State::new(alloc, &config);
         state.send_greeting(&config, suite, out)?;
         Ok(Endpoint {
-            input: Input::new(alloc, config.role()),
+            input: Input::new(alloc, config.role(), config.line_form()),
             config,
             suite,
             decisions,

@@ -2,7 +2,7 @@
 
 ghost use Rattle.std.specs.Prelude.{◌≡◌, ◌≢◌, ◌+◌, ◌*◌, ◌<◌, ◌≤◌, ℕ, Bool, IfOk, List, None, OnOk, length, take, true};
 ghost use Rattle.sshwire.specs.Feeding.{StandsOpen};
-ghost use Rattle.sshwire.specs.LineReaderData.{Finished, LineReaderData};
+ghost use Rattle.sshwire.specs.LineReaderData.{Finished, PeerLineReaderData};
 ghost use Rattle.sshwire.specs.declared.fault.WireFault.TheVariants as wire;
 ghost use Rattle.sshpacket.specs.declared.fault.PacketFault.TheVariants as packet;
 ghost use Rattle.sshpacket.specs.KeysData.{KeysData};
@@ -28,26 +28,27 @@ use crate::notice::{line_of, tell_lines};
 use crate::state::State;
 use sshneg::Side;
 use sshpacket::{Keys, PacketFault, PacketReader, PacketStep, Suite};
-use sshwire::{LineReader, LineStep, Memory, OTHER_LINE_LIMIT, WireFault};
+use sshwire::{LineForm, Memory, OTHER_LINE_LIMIT, PeerLineReader, PeerStep, WireFault};
 use std::alloc::Global;
 
 /// What an endpoint reads its bytes with: lines first, then packets.
 #[derive(Drop)]
 pub(crate) enum Input {
-    Lines(LineReader),
+    Lines(PeerLineReader),
     Packets(PacketReader),
 }
 
 impl Input {
-    /// Before any byte. A client accepts 20 other lines before the version line, a server none (profile).
-    pub(crate) fn new(alloc: Global, role: Side) -> Input
-        ensures { Begins role result }
+    /// Before any byte. A client accepts 20 other lines before the version line, a server none (profile);
+    /// the form says which line that is.
+    pub(crate) fn new(alloc: Global, role: Side, form: LineForm) -> Input
+        ensures { Begins role form result }
     {
         let others = match role {
             Side::Client => OTHER_LINE_LIMIT,
             Side::Server => 0,
         };
-        Input::Lines(LineReader::new(alloc, others))
+        Input::Lines(PeerLineReader::new(alloc, others, form))
     }
 
     /// How many bytes of the unfinished line or packet are held.
@@ -66,7 +67,7 @@ impl Input {
     pub(crate) fn into_keys(self) -> (Option<Keys>, u32)
         ensures keys { (reader : PacketReader) → self ≡ input.Packets reader → result.0 ≡ (packet_reader_data reader).keys }
         ensures number { (reader : PacketReader) → self ≡ input.Packets reader → result.1 ≡ (packet_reader_data reader).seq }
-        ensures before { (reader : LineReaderData) → self ≡ input.Lines reader → result ≡ (None, 0) }
+        ensures before { (reader : PeerLineReaderData) → self ≡ input.Lines reader → result ≡ (None, 0) }
     {
         match self {
             Input::Lines(_) => (None, 0),
@@ -95,7 +96,7 @@ impl Input {
         ensures reads { OnOk result (IsOngoing (end_data state.new.end) → CanRead (S.meaning suite.now) self.new) }
         ensures kept { OnOk result (by_input (end_data state.new.end) ≡ true) }
     {
-        sshpacket::parser_law();
+        sshpacket::parser_by_law();
         sshpacket::stream_law();
         sshmsg::numbers_law();
         sshneg::markers_law();
@@ -147,16 +148,17 @@ impl Received {
 
 /// Reads on up to the end of the version line; fails as `Version` where a line is refused.
 pub(crate) fn receive_lines(
-    reader: &mut LineReader,
+    reader: &mut PeerLineReader,
     state: &mut State<'_>,
     piece: &[u8],
 ) -> Result<Received, Memory>
     requires open { end_data state.old.end ≡ Open }
     requires some { 0 < length piece.now }
-    requires reads { reader.old.progress ≢ Finished }
-    ensures lines { IfOk result (λ received. (k : ℕ) (bytes : List ℕ) → StandsOpen k bytes reader.old.progress
-        → ReceivesLines k bytes reader.new (state_data state.old) (state_data state.new) piece.now received) }
-    ensures reads { IfOk result (λ received. MayReadOn received reader.new.progress) }
+    requires reads { reader.old.state.progress ≢ Finished }
+    ensures lines { IfOk result (λ received. (k : ℕ) (bytes : List ℕ) → StandsOpen k bytes reader.old.state.progress
+        → ReceivesLines reader.old.form k bytes reader.new.state (state_data state.old) (state_data state.new) piece.now received) }
+    ensures reads { IfOk result (λ received. MayReadOn received reader.new.state.progress) }
+    ensures form { reader.new.form ≡ reader.old.form }
     ensures used { IfOk result (λ received. used_by received ≤ length piece.now) }
     ensures ends { IfOk result (λ received. EndsBy received (used_by received) (length piece.now) (end_data state.new.end)) }
     // Nothing changes but how the endpoint stands and the text of the version line.
@@ -166,8 +168,8 @@ pub(crate) fn receive_lines(
     }) }
 {
     match reader.feed(piece) {
-        Ok(LineStep::More) => Ok(Received::Part(piece.len())),
-        Ok(LineStep::Done { version, .. }) => {
+        Ok(PeerStep::More) => Ok(Received::Part(piece.len())),
+        Ok(PeerStep::Done { version, .. }) => {
             state.version = Vec::from_slice(state.alloc, version.text())?;
             Ok(Received::Whole(reader.taken()))
         }
@@ -211,7 +213,7 @@ fn receive_packets<S: Suite, D: Decisions>(
     ensures reads { OnOk result (IsOngoing (end_data state.new.end) → ReaderWaits (S.meaning suite.now) reader.new) }
     ensures kept { OnOk result (by_input (end_data state.new.end) ≡ true) }
 {
-    sshpacket::parser_law();
+    sshpacket::parser_by_law();
     sshpacket::stream_law();
     sshmsg::numbers_law();
     sshneg::markers_law();

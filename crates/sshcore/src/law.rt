@@ -194,6 +194,6 @@ pub fn history_law()
 {
     sshmsg::numbers_law();
     sshneg::markers_law();
-    sshpacket::parser_law();
+    sshpacket::parser_by_law();
     sshpacket::stream_law();
 }

@@ -81,8 +81,8 @@ pub use config_fault::ConfigFault;
 pub use config_laws::{config_law, draws_law};
 pub use config_parts::{
     Attempt, BANNER_LIMIT, ClientParts, Credential, HostKey, IGNORED_OVERHEAD, LIST_LIMIT,
-    NOTICE_LIMIT, NOTICE_LINE_LIMIT, PASSWORD_LIMIT, PLAN_LIMIT, PRIVATE_KEY_LIMIT, ServerParts,
-    SideParts, TRIES_LIMIT, USER_LIMIT,
+    NOTICE_LIMIT, NOTICE_LINE_LIMIT, PASSWORD_LIMIT, PLAN_LIMIT, PRIVATE_KEY_LIMIT, PeerReading,
+    ServerParts, SideParts, TRIES_LIMIT, USER_LIMIT,
 };
 pub use decisions::{Decisions, Proof};
 pub use disconnecting::DESCRIPTION_LIMIT;

@@ -12,7 +12,8 @@ use anyhow::{Context, bail};
 use base64::engine::general_purpose::STANDARD_NO_PAD;
 use sha2::{Digest, Sha256};
 use sshcore::{
-    Attempt, ClientConfig, ClientParts, Credential, Decisions, End, Endpoint, Proof, SideParts,
+    Attempt, ClientConfig, ClientParts, Credential, Decisions, End, Endpoint, PeerReading, Proof,
+    SideParts,
 };
 use sshsuite::DeployedSuite;
 use std::alloc::Global;
@@ -100,6 +101,7 @@ fn parts_of(rt: &HostRuntime, user: &str, password: &str) -> anyhow::Result<Clie
         side: SideParts {
             softwareversion: String::from_str(alloc, "example")?,
             comments: None,
+            reading: PeerReading::Deployed,
             kex_algorithms: list(alloc, "curve25519-sha256")?,
             encryption_client_to_server: list(alloc, "chacha20-poly1305@openssh.com")?,
             encryption_server_to_client: list(alloc, "chacha20-poly1305@openssh.com")?,

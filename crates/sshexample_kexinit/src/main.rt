@@ -6,7 +6,7 @@
 use anyhow::bail;
 use sshmsg::{KexInit, Message, SSH_MSG_KEXINIT, read};
 use sshpacket::{ClearReader, PacketStep};
-use sshwire::{LineReader, LineStep, NameList, OTHER_LINE_LIMIT};
+use sshwire::{LineForm, NameList, OTHER_LINE_LIMIT, PeerLineReader, PeerStep, ReadBy};
 use std::io::Read;
 
 fn main(rt: HostRuntime) -> anyhow::Result<()> {
@@ -17,15 +17,16 @@ fn main(rt: HostRuntime) -> anyhow::Result<()> {
     find_kexinit(&rt, &mut reader, packets)
 }
 
-/// What stands after the version line, which is printed.
+/// What stands after the version line, which is printed. It is read as deployed servers write it.
 fn after_version<'a>(rt: &HostRuntime, bytes: &'a [u8]) -> anyhow::Result<&'a [u8]> {
-    let mut lines = LineReader::new(rt.alloc(), OTHER_LINE_LIMIT);
+    let form = LineForm::Deployed(ReadBy::Client);
+    let mut lines = PeerLineReader::new(rt.alloc(), OTHER_LINE_LIMIT, form);
     match lines.feed(bytes)? {
-        LineStep::Done { version, used } => {
+        PeerStep::Done { version, used } => {
             println!(rt; "version {version}")?;
             Ok(bytes.get(used..).unwrap_or(&[]))
         }
-        LineStep::More => bail!("no version line"),
+        PeerStep::More => bail!("no version line"),
     }
 }
 

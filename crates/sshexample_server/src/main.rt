@@ -5,7 +5,7 @@
 #![tactic(auto)]
 
 use anyhow::{Context, bail};
-use sshcore::{Credential, Draws, End, Endpoint, ServerConfig};
+use sshcore::{Credential, Draws, End, Endpoint, PeerReading, ServerConfig};
 use sshsuites::{LabDecisions, LabSuite, lab_server_parts};
 use std::alloc::Global;
 use std::io;
@@ -30,6 +30,7 @@ fn main(rt: HostRuntime) -> anyhow::Result<()> {
 
 fn lab_config(alloc: Global) -> anyhow::Result<ServerConfig> {
     let mut parts = Box::new(alloc, lab_server_parts(alloc)?)?;
+    parts.side.reading = PeerReading::Deployed;
     parts.side.ignored_limit = Some(1 << 20);
     let config = ServerConfig::new(alloc, Box::into_inner(parts))?;
     judged(&config)?;

@@ -7,7 +7,7 @@ use sshmsg::{KexInit, Message, SSH_MSG_KEXINIT, read};
 use sshneg::{Chosen, Side, choose, strict_of};
 use sshpacket::{PacketReader, PacketStep};
 use sshsuites::KemSuite;
-use sshwire::{LineReader, LineStep, NameList, OTHER_LINE_LIMIT};
+use sshwire::{LineForm, NameList, OTHER_LINE_LIMIT, PeerLineReader, PeerStep, ReadBy};
 use std::alloc::Global;
 use std::io;
 
@@ -17,20 +17,23 @@ const SUITE: KemSuite = KemSuite;
 
 fn main(rt: HostRuntime) -> anyhow::Result<()> {
     let text = io::read_to_string(rt.alloc(), rt.stdin())?;
-    let client = payload_of(rt.alloc(), &text, "c ", 0).context("the client's KEXINIT")?;
-    let others = OTHER_LINE_LIMIT; // a server may send lines before its version line
-    let server = payload_of(rt.alloc(), &text, "s ", others).context("the server's KEXINIT")?;
+    let client = payload_of(rt.alloc(), &text, Side::Client).context("the client's KEXINIT")?;
+    let server = payload_of(rt.alloc(), &text, Side::Server).context("the server's KEXINIT")?;
     tell(&rt, &client, &server)
 }
 
-/// The payload of a side's first KEXINIT. The side's lines begin with this mark.
-fn payload_of(alloc: Global, text: &str, mark: &str, others: u32) -> anyhow::Result<Vec<u8>> {
+/// The payload of a side's first KEXINIT.
+fn payload_of(alloc: Global, text: &str, side: Side) -> anyhow::Result<Vec<u8>> {
+    let mark = match side {
+        Side::Client => "c ",
+        Side::Server => "s ",
+    };
     let stream = stream_of(alloc, text, mark)?;
     let mut packets = PacketReader::new(alloc);
-    find_kexinit(alloc, &mut packets, after_version(alloc, &stream, others)?)
+    find_kexinit(alloc, &mut packets, after_version(alloc, &stream, side)?)
 }
 
-/// What a side sent: the bytes of its lines, one after the other.
+/// What a side sent: the bytes of the lines that begin with its mark, one after the other.
 fn stream_of(alloc: Global, text: &str, mark: &str) -> anyhow::Result<Vec<u8>> {
     let mut stream = Vec::new(alloc);
     for line in text.lines() {
@@ -42,12 +45,17 @@ fn stream_of(alloc: Global, text: &str, mark: &str) -> anyhow::Result<Vec<u8>> {
     Ok(stream)
 }
 
-/// What stands after the version line.
-fn after_version(alloc: Global, stream: &[u8], others: u32) -> anyhow::Result<&[u8]> {
-    let mut lines = LineReader::new(alloc, others);
+/// What stands after the version line of what this side sent, which is read as deployed peers write it. A server may send
+/// lines before it.
+fn after_version(alloc: Global, stream: &[u8], side: Side) -> anyhow::Result<&[u8]> {
+    let (others, by) = match side {
+        Side::Client => (0, ReadBy::Server),
+        Side::Server => (OTHER_LINE_LIMIT, ReadBy::Client),
+    };
+    let mut lines = PeerLineReader::new(alloc, others, LineForm::Deployed(by));
     match lines.feed(stream)? {
-        LineStep::Done { used, .. } => Ok(stream.get(used..).unwrap_or(&[])),
-        LineStep::More => bail!("no version line"),
+        PeerStep::Done { used, .. } => Ok(stream.get(used..).unwrap_or(&[])),
+        PeerStep::More => bail!("no version line"),
     }
 }
 

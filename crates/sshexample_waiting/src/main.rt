@@ -11,7 +11,7 @@
 #![tactic(auto)]
 
 use anyhow::bail;
-use sshcore::{AskingEndpoint, End, Fed, Proof, Question, ServerConfig, Silent};
+use sshcore::{AskingEndpoint, End, Fed, PeerReading, Proof, Question, ServerConfig, Silent};
 use sshsuites::{LabSuite, lab_server_parts};
 use std::alloc::{AllocError, Global};
 use std::{io, mem};
@@ -49,6 +49,7 @@ fn main(rt: HostRuntime) -> anyhow::Result<()> {
 
 fn lab_config(alloc: Global) -> anyhow::Result<ServerConfig> {
     let mut parts = Box::new(alloc, lab_server_parts(alloc)?)?;
+    parts.side.reading = PeerReading::Deployed;
     parts.side.ignored_limit = Some(1 << 20);
     let config = ServerConfig::new(alloc, Box::into_inner(parts))?;
     judged(&config)?;

@@ -9,7 +9,7 @@ use Rattle.sshpacket.specs.KeysData.{KeysData}
 use Rattle.sshpacket.specs.Suite.{SuiteData}
 use Rattle.sshmsg.specs.declared.numbers.TheConstants.{SSH_MSG_USERAUTH_REQUEST}
 
--- what both sides know of an exchange: the version lines without CR LF, the payloads of both KEXINITs, the server's host
+-- what both sides know of an exchange: the version lines without what ends them, the payloads of both KEXINITs, the server's host
 -- key, the shares e and f and the shared secret K, as bodies of mpints or as bytes
 pub record ExchangeData : Type 0 where
   pub client_version : List ℕ

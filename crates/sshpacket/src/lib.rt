@@ -40,7 +40,7 @@ pub use reader::{PacketReader, PacketStep};
 pub use room::ROOM_KEPT;
 pub use sshwire::ShareForm;
 pub use stream_laws::{
-    joined_law, lines_by_law, parser_law, places_law, receiving_law, stream_law,
+    joined_law, parser_by_law, parser_law, places_law, receiving_by_law, receiving_law, stream_law,
 };
 pub use suite::{AgreeingSuite, Capability, KeyLens, Need, Response, Suite};
 pub use write::{write_clear, write_sealed, write_with_padding};

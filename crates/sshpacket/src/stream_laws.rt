@@ -76,9 +76,10 @@ pub fn parser_law()
     sshwire::reading_law();
 }
 
-/// The law of lines that are read by any form: what `parser_law` and `receiving_law` say of them by the
-/// letter. The answers are those of `PeerLineReader::feed` in the words of `LineReader::feed` (`answer_of`).
-pub fn lines_by_law()
+/// The law of readers of one unit, where a form says which lines are version lines: what `parser_law` says,
+/// of each form.
+pub fn parser_by_law()
+    ensures packets { (w : ProtectionData) → IsIncremental (parse_packet w) }
     ensures lines { (form : LineForm) (k : ℕ) → IsIncremental (preamble_parser_by form k) }
 
     // What is read of lines stands there, and what stands there is read: a preamble as its version, whatever follows.
@@ -88,13 +89,6 @@ pub fn lines_by_law()
 
     // What is read by the letter is read so by each form.
     ensures wider { (form : LineForm) (k : ℕ) (bytes text : List ℕ) (len : ℕ) → preamble_parser k bytes ≡ whole text len → preamble_parser_by form k bytes ≡ whole text len }
-
-    // A line reader that stands open at the stream has received no unit of it, and goes on standing there.
-    ensures stands { (form : LineForm) (parsers : Units → Parser) (k : ℕ) (stream : List ℕ) (progress : Progress)
-        → parsers [] ≡ preamble_parser_by form k → StandsOpen k stream progress → Received parsers stream [] stream None }
-    ensures receives_lines { (form : LineForm) (parsers : Units → Parser) → ((us : Units) → IsIncremental (parsers us)) → (k : ℕ) (stream piece : List ℕ)
-        (old : Progress) (new : LineReaderData) (result : Result LineStep WireFault)
-        → parsers [] ≡ preamble_parser_by form k → StandsOpen k stream old → PreambleAnswerBy form k stream piece result new → ReceivesLinesOn parsers stream piece result new }
 {
     sshwire::reading_by_law();
 }
@@ -170,6 +164,18 @@ pub fn receiving_law()
         → parsers [] ≡ preamble_parser k → StandsOpen k stream old → PreambleAnswer k stream piece result new → ReceivesLinesOn parsers stream piece result new }
 {
     parser_law();
+}
+
+/// The law of receiving lines that are read by any form: what `receiving_law` says of a `LineReader`, of a
+/// `PeerLineReader`, whose answers are those of `feed` in the words of `LineReader::feed` (`answer_of`).
+pub fn receiving_by_law()
+    ensures stands { (form : LineForm) (parsers : Units → Parser) (k : ℕ) (stream : List ℕ) (progress : Progress)
+        → parsers [] ≡ preamble_parser_by form k → StandsOpen k stream progress → Received parsers stream [] stream None }
+    ensures receives_lines { (form : LineForm) (parsers : Units → Parser) → ((us : Units) → IsIncremental (parsers us)) → (k : ℕ) (stream piece : List ℕ)
+        (old : Progress) (new : LineReaderData) (result : Result LineStep WireFault)
+        → parsers [] ≡ preamble_parser_by form k → StandsOpen k stream old → PreambleAnswerBy form k stream piece result new → ReceivesLinesOn parsers stream piece result new }
+{
+    parser_by_law();
 }
 
 /// The law of joined packets: what is read of a stream after its version line is packets one after

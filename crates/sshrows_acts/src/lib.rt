@@ -23,6 +23,7 @@ mod endpoints;
 mod generous;
 mod handed;
 mod judged;
+mod line_readers;
 mod linked;
 mod names;
 mod parts;

@@ -5,7 +5,7 @@ use crate::stop::Stop;
 use crate::terms::{bytes_of, text_of};
 use crate::texts::{number_of, wrong};
 use crate::words::{Line, split_word};
-use sshcore::{Attempt, ClientParts, Credential, HostKey, ServerParts, SideParts};
+use sshcore::{Attempt, ClientParts, Credential, HostKey, PeerReading, ServerParts, SideParts};
 use sshsuites::{lab_client_parts, lab_server_parts};
 use std::alloc::Global;
 
@@ -117,10 +117,23 @@ fn set_side(
             side.ignored_limit = Some(number_of(alloc, line, rest)?);
             Ok(())
         }
+        "reading" => {
+            side.reading = reading_of(alloc, line, rest)?;
+            Ok(())
+        }
         _ => match list_in(side, word) {
             Some(list) => set_list(alloc, names, line, list, rest),
             None => wrong(alloc, line, "line", "a part of a config", word),
         },
+    }
+}
+
+/// By which grammar the peer's version line is read.
+fn reading_of(alloc: Global, line: &Line<'_>, word: &str) -> Result<PeerReading, Stop> {
+    match word {
+        "strict" => Ok(PeerReading::Strict),
+        "deployed" => Ok(PeerReading::Deployed),
+        _ => wrong(alloc, line, "line", "strict or deployed", word),
     }
 }
 

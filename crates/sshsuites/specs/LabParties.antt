@@ -1,6 +1,7 @@
 -- What the lab endpoints are made of by default.
 
 use Rattle.std.specs.Prelude.{ℕ, false, true, [], ◌∷◌, codes, None, replicate}
+use Rattle.sshcore.specs.declared.config_parts.PeerReading.TheVariants.{Strict}
 use Rattle.sshcore.specs.ConfigParts.{ClientData, HostKeyData, ServerData, SideData}
 
 -- one name for each list, and bytes that are all alike
@@ -8,6 +9,7 @@ abbrev pub lab_side : ℕ → ℕ → ℕ → SideData
 lab_side cookie random seed = record {
   softwareversion = codes "lab_1";
   comments = None;
+  reading = Strict;
   kex_algorithms = codes "a" ∷ [];
   encryption_client_to_server = codes "c" ∷ [];
   encryption_server_to_client = codes "c" ∷ [];

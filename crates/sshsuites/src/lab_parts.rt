@@ -5,12 +5,13 @@ ghost use Rattle.sshcore.specs.ConfigView.{client_data, host_key_data, server_da
 ghost use Rattle.sshsuites.specs.LabParties.{lab_client, lab_host_key, lab_server, lab_side};
 
 use crate::owned::{alone, and, beside};
-use sshcore::{ClientParts, HostKey, ServerParts, SideParts};
+use sshcore::{ClientParts, HostKey, PeerReading, ServerParts, SideParts};
 use sshwire::Memory;
 use std::alloc::Global;
 
 /// The parts of a client whose plan is empty: the method `a`, the cipher `c`, the MAC `m` and the host
-/// key algorithm `h`, strict, with no guess; the cookie is 16 bytes 00, the exchange random 32 bytes 11
+/// key algorithm `h`, strict, with no guess,
+/// and lines are read by the letter; the cookie is 16 bytes 00, the exchange random 32 bytes 11
 /// and the padding seed 32 bytes 22, all hexadecimal. Answers `Memory` where an allocation failed.
 pub fn lab_client_parts(alloc: Global) -> Result<ClientParts, Memory>
     ensures { IfOk result (λ parts. client_data parts ≡ lab_client) }
@@ -69,6 +70,7 @@ fn lab_side(alloc: Global, cookie: u8, random: u8, seed: u8) -> Result<SideParts
     Ok(SideParts {
         softwareversion,
         comments: None,
+        reading: PeerReading::Strict,
         kex_algorithms,
         encryption_client_to_server: encryption.0,
         encryption_server_to_client: encryption.1,

@@ -1,6 +1,6 @@
 -- Version lines and what may stand before them: RFC 4253 section 4.2.
 -- This project's profile: comments have printable US-ASCII alone, as the softwareversion has; only protoversion 2.0
--- is taken (section 5.1 lets a client take 1.99 too); the limits on other lines and their number; the order of judgement.
+-- is taken (section 5.1 has a client take 1.99 too, as the second grammar does); the limits on other lines and their number; the order of judgement.
 -- Beside it stands a second grammar, of what deployed peers write. A name that ends with By takes the form; the same name
 -- without it is that of the strict one.
 

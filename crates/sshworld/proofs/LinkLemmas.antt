@@ -15,7 +15,7 @@ use Rattle.sshpacket.specs.Suite.{IsLawful, SuiteData}
 use Rattle.sshpacket.proofs.Places.{each-prefix, each-push, each-weaker, prefix-through, stands-prefix}
 use Rattle.sshcore.specs.Before.{kept, offered, since, stood, strict_at}
 use Rattle.sshcore.specs.Counting.{is_newkeys, number_by, number_in, number_out, switched_out}
-use Rattle.sshcore.specs.Directions.{keys_in, keys_out, others_of, parsers, payloads_in, spelled_by, spells, version_in}
+use Rattle.sshcore.specs.Directions.{form_of, keys_in, keys_out, others_of, parsers, payloads_in, spelled_by, spells, version_in}
 use Rattle.sshcore.specs.EndData.{EndData}
 use Rattle.sshcore.specs.Exchange.{exchange_at, keys_at}
 use Rattle.sshcore.specs.History.{AllFit, FitsPacket, History, IsReady}
@@ -173,7 +173,7 @@ module _ (m : SuiteData) (role peer : Side) (own their : ConfigData) (ours their
 
   pub all_spelled : Laws → IsLawful m → EachPlace (Spelled (parsers m role own) (spells m peer their units)) [] (their.version ∷ answers)
   all_spelled laws lawful = (
-    (λ more. laws.preamble (others_of role) their.version _ more can.preamble),
+    (λ more. laws.preamble (form_of own.reading role) (others_of role) their.version _ more can.preamble),
     each_spelled laws m lawful role peer own their units [] answers tt places_sent speaks.fits same_way,
   )
 

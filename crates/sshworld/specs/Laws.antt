@@ -2,13 +2,14 @@
 
 use Rattle.std.specs.Prelude.{◌≡◌, ℕ, ◌^◌, ◌<◌, ◌≤◌, List, [], ◌++◌, length, Option, None, Some}
 use Rattle.sshwire.specs.declared.limits.TheConstants.{PAYLOAD_LIMIT}
+use Rattle.sshwire.specs.declared.line_form.LineForm.{LineForm}
 use Rattle.sshwire.specs.Lines.{Preamble}
 use Rattle.sshwire.specs.Types.{IsBytes}
 use Rattle.sshneg.specs.declared.side.Side.{Side}
 use Rattle.sshpacket.specs.KeysData.{KeysData}
 use Rattle.sshpacket.specs.Parse.{Refusal, parse_packet, protection, whole}
 use Rattle.sshpacket.specs.Places.{EachPlace}
-use Rattle.sshpacket.specs.PreambleParser.{preamble_parser}
+use Rattle.sshpacket.specs.PreambleParser.{preamble_parser_by}
 use Rattle.sshpacket.specs.Stream.{IsIncremental, Linked, Parser, Received, ReceivedAll, Same, Sent, Spelled, Units}
 use Rattle.sshpacket.specs.Suite.{IsLawful, SuiteData}
 use Rattle.sshpacket.specs.Written.{written_clear, written_sealed}
@@ -22,7 +23,8 @@ pub record Laws : Type 0 where
   pub sealed : (m : SuiteData) → IsLawful m → (keys : KeysData) (seed : List ℕ) (seq : ℕ) (payload rest : List ℕ) → seq < 2 ^ 32 → IsBytes payload
       → 0 < length payload → length payload ≤ PAYLOAD_LIMIT
       → parse_packet (protection m (Some keys) seq) (written_sealed m keys seed seq payload ++ rest) ≡ whole payload (length (written_sealed m keys seed seq payload))
-  pub preamble : (k : ℕ) (text bytes more : List ℕ) → Preamble k text bytes → preamble_parser k (bytes ++ more) ≡ whole text (length bytes)
+  -- what is a preamble by the letter is read so by each form
+  pub preamble : (form : LineForm) (k : ℕ) (text bytes more : List ℕ) → Preamble k text bytes → preamble_parser_by form k (bytes ++ more) ≡ whole text (length bytes)
   pub parsers : (m : SuiteData) (role : Side) (party : ConfigData) (units : Units) → IsIncremental (parsers m role party units)
   pub link : (parsers : Units → Parser) (spells : Units → List ℕ → List ℕ) → ((us : Units) → IsIncremental (parsers us))
       → (stream received more : List ℕ) (sent us : Units) (rest : List ℕ) (r : Option Refusal)

@@ -1,7 +1,6 @@
 -- What rounds bring to a world, as its private functions tell it: no clause of a public call names these.
 
 use Rattle.std.specs.Prelude.{◌≡◌, ◌≤◌, ◌+◌, ℕ, length, min, take}
-use Rattle.sshneg.specs.declared.side.Side.TheVariants as role
 use Rattle.sshpacket.specs.Suite.{SuiteData}
 use Rattle.sshcore.specs.ConfigParts.{ClientData, ServerData}
 use Rattle.sshcore.specs.EndpointParts.{DecisionsData, client_setup, server_setup}

@@ -16,7 +16,7 @@ pub(crate) fn below_law()
     ensures laws { Laws }
 {
     sshpacket::writing_law();
-    sshpacket::parser_law();
+    sshpacket::parser_by_law();
     sshpacket::stream_law();
     sshcore::history_law();
 }

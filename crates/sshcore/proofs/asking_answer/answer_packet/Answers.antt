@@ -17,8 +17,8 @@ pub returns-clause-steps : goal.returns-clause-steps
 returns-clause-steps g c =
     let below : Below = record { numbers = c.numbers_law.ensures.kind; alike = c.numbers_law.ensures.alike; right = c.markers_law.ensures.right } in
     let streams : Streams = record {
-      packets = c.parser_law.ensures.packets;
-      lines = c.parser_law.ensures.lines;
+      packets = c.parser_by_law.ensures.packets;
+      lines = c.parser_by_law.ensures.lines;
       nothing = c.stream_law.ensures.nothing;
       unit = c.stream_law.ensures.received_unit;
       refusal = c.stream_law.ensures.received_refusal;

@@ -25,8 +25,8 @@ returns-in-Ok-More-clause-steps g c = λ d.
     let r = c.args.reader.now in
     let below : Below = record { numbers = c.numbers_law.ensures.kind; alike = c.numbers_law.ensures.alike; right = c.markers_law.ensures.right } in
     let streams : Streams = record {
-      packets = c.parser_law.ensures.packets;
-      lines = c.parser_law.ensures.lines;
+      packets = c.parser_by_law.ensures.packets;
+      lines = c.parser_by_law.ensures.lines;
       nothing = c.stream_law.ensures.nothing;
       unit = c.stream_law.ensures.received_unit;
       refusal = c.stream_law.ensures.received_refusal;
@@ -57,7 +57,7 @@ returns-in_ok-waiting-in-Some-clause-steps g c =
       same = refl;
       nothing_sent = refl;
       reads = subst (λ (x : WaitingData). ReadsPacket m (input.Packets r) (input.Packets p) x (take c.in-Ok-Payload.used c.args.piece.now)) (sym same)
-          (reads_packet m r p (c.parser_law.ensures.packets (protection_at m (packet_reader_data r))) c.args.piece.now c.in-Ok-Payload.used w answer.0 answer.1 answer.2 leaves.0);
+          (reads_packet m r p (c.parser_by_law.ensures.packets (protection_at m (packet_reader_data r))) c.args.piece.now c.in-Ok-Payload.used w answer.0 answer.1 answer.2 leaves.0);
       asked = record {
         is_open = c.requires.open;
         idle = ap (λ (t : PacketReaderData). t.held) leaves.0;
@@ -73,8 +73,8 @@ returns-in_ok-receive-in-None-clause-steps g c = λ d.
     let r = c.args.reader.now in
     let below : Below = record { numbers = c.numbers_law.ensures.kind; alike = c.numbers_law.ensures.alike; right = c.markers_law.ensures.right } in
     let streams : Streams = record {
-      packets = c.parser_law.ensures.packets;
-      lines = c.parser_law.ensures.lines;
+      packets = c.parser_by_law.ensures.packets;
+      lines = c.parser_by_law.ensures.lines;
       nothing = c.stream_law.ensures.nothing;
       unit = c.stream_law.ensures.received_unit;
       refusal = c.stream_law.ensures.received_refusal;
@@ -101,8 +101,8 @@ returns-in_ok-fail_packet-in-Err-clause-steps g c = λ d.
     let r = c.args.reader.now in
     let below : Below = record { numbers = c.numbers_law.ensures.kind; alike = c.numbers_law.ensures.alike; right = c.markers_law.ensures.right } in
     let streams : Streams = record {
-      packets = c.parser_law.ensures.packets;
-      lines = c.parser_law.ensures.lines;
+      packets = c.parser_by_law.ensures.packets;
+      lines = c.parser_by_law.ensures.lines;
       nothing = c.stream_law.ensures.nothing;
       unit = c.stream_law.ensures.received_unit;
       refusal = c.stream_law.ensures.received_refusal;
@@ -133,7 +133,7 @@ returns-in_ok-fail_packet-in-Err-clause-used g c =
     let ahead_is = leaves.2 c.in_ok-fail_packet-in-Err.ensures.refused in
     let used_is = c.taken-used.ensures in (
       subst (λ (n : ℕ). 0 < n) (sym used_is)
-          (refused_some (parse_packet (protection_at m (packet_reader_data r))) (c.parser_law.ensures.packets (protection_at m (packet_reader_data r))) (packet_reader_data r).held c.args.piece.now (last_used q) (OfPacket c.in-Err.fault) c.requires.reads.unfinished_is ahead_is),
+          (refused_some (parse_packet (protection_at m (packet_reader_data r))) (c.parser_by_law.ensures.packets (protection_at m (packet_reader_data r))) (packet_reader_data r).held c.args.piece.now (last_used q) (OfPacket c.in-Err.fault) c.requires.reads.unfinished_is ahead_is),
       subst (λ (n : ℕ). n ≤ length c.args.piece.now) (sym used_is) leaves.1,
     )
 

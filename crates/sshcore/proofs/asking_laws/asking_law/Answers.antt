@@ -38,8 +38,8 @@ returns-clause-authenticated g c = λ d h s a agreed is.
 pub returns-clause-joined_received : goal.returns-clause-joined_received
 returns-clause-joined_received g c = λ same none other_none d.
     let streams : Streams = record {
-      packets = c.parser_law.ensures.packets;
-      lines = c.parser_law.ensures.lines;
+      packets = c.parser_by_law.ensures.packets;
+      lines = c.parser_by_law.ensures.lines;
       nothing = c.stream_law.ensures.nothing;
       unit = c.stream_law.ensures.received_unit;
       refusal = c.stream_law.ensures.received_refusal;
@@ -54,8 +54,8 @@ returns-clause-joined_received g c = λ same none other_none d.
 pub returns-clause-front : goal.returns-clause-front
 returns-clause-front g c = λ same is none d h more s t.
     let streams : Streams = record {
-      packets = c.parser_law.ensures.packets;
-      lines = c.parser_law.ensures.lines;
+      packets = c.parser_by_law.ensures.packets;
+      lines = c.parser_by_law.ensures.lines;
       nothing = c.stream_law.ensures.nothing;
       unit = c.stream_law.ensures.received_unit;
       refusal = c.stream_law.ensures.received_refusal;
@@ -70,8 +70,8 @@ returns-clause-front g c = λ same is none d h more s t.
 pub returns-clause-asks : goal.returns-clause-asks
 returns-clause-asks g c = λ d h s a w waits is.
     let streams : Streams = record {
-      packets = c.parser_law.ensures.packets;
-      lines = c.parser_law.ensures.lines;
+      packets = c.parser_by_law.ensures.packets;
+      lines = c.parser_by_law.ensures.lines;
       nothing = c.stream_law.ensures.nothing;
       unit = c.stream_law.ensures.received_unit;
       refusal = c.stream_law.ensures.received_refusal;
@@ -87,8 +87,8 @@ returns-clause-asks g c = λ d h s a w waits is.
 pub returns-clause-later : goal.returns-clause-later
 returns-clause-later g c = λ same d h more s t.
     let streams : Streams = record {
-      packets = c.parser_law.ensures.packets;
-      lines = c.parser_law.ensures.lines;
+      packets = c.parser_by_law.ensures.packets;
+      lines = c.parser_by_law.ensures.lines;
       nothing = c.stream_law.ensures.nothing;
       unit = c.stream_law.ensures.received_unit;
       refusal = c.stream_law.ensures.received_refusal;

@@ -10,8 +10,8 @@ returns-clause-joined g c = λ beside none p q.
 pub returns-clause-front : goal.returns-clause-front
 returns-clause-front g c = λ beside is h more s t.
     let streams : Streams = record {
-      packets = c.parser_law.ensures.packets;
-      lines = c.parser_law.ensures.lines;
+      packets = c.parser_by_law.ensures.packets;
+      lines = c.parser_by_law.ensures.lines;
       nothing = c.stream_law.ensures.nothing;
       unit = c.stream_law.ensures.received_unit;
       refusal = c.stream_law.ensures.received_refusal;
@@ -26,8 +26,8 @@ returns-clause-front g c = λ beside is h more s t.
 pub returns-clause-answered : goal.returns-clause-answered
 returns-clause-answered g c = λ beside none p q answers h other_h s t x y dialogue gives.
     let streams : Streams = record {
-      packets = c.parser_law.ensures.packets;
-      lines = c.parser_law.ensures.lines;
+      packets = c.parser_by_law.ensures.packets;
+      lines = c.parser_by_law.ensures.lines;
       nothing = c.stream_law.ensures.nothing;
       unit = c.stream_law.ensures.received_unit;
       refusal = c.stream_law.ensures.received_refusal;

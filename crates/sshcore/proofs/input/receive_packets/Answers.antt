@@ -21,8 +21,8 @@ returns-in-Ok-More-clause-steps g c =
     let r = c.args.reader.now in
     let below : Below = record { numbers = c.numbers_law.ensures.kind; alike = c.numbers_law.ensures.alike; right = c.markers_law.ensures.right } in
     let streams : Streams = record {
-      packets = c.parser_law.ensures.packets;
-      lines = c.parser_law.ensures.lines;
+      packets = c.parser_by_law.ensures.packets;
+      lines = c.parser_by_law.ensures.lines;
       nothing = c.stream_law.ensures.nothing;
       unit = c.stream_law.ensures.received_unit;
       refusal = c.stream_law.ensures.received_refusal;
@@ -45,8 +45,8 @@ returns-in-Some-clause-steps g c =
     let r = c.args.reader.now in
     let below : Below = record { numbers = c.numbers_law.ensures.kind; alike = c.numbers_law.ensures.alike; right = c.markers_law.ensures.right } in
     let streams : Streams = record {
-      packets = c.parser_law.ensures.packets;
-      lines = c.parser_law.ensures.lines;
+      packets = c.parser_by_law.ensures.packets;
+      lines = c.parser_by_law.ensures.lines;
       nothing = c.stream_law.ensures.nothing;
       unit = c.stream_law.ensures.received_unit;
       refusal = c.stream_law.ensures.received_refusal;
@@ -77,8 +77,8 @@ returns-in_default-clause-steps g c =
     let r = c.args.reader.now in
     let below : Below = record { numbers = c.numbers_law.ensures.kind; alike = c.numbers_law.ensures.alike; right = c.markers_law.ensures.right } in
     let streams : Streams = record {
-      packets = c.parser_law.ensures.packets;
-      lines = c.parser_law.ensures.lines;
+      packets = c.parser_by_law.ensures.packets;
+      lines = c.parser_by_law.ensures.lines;
       nothing = c.stream_law.ensures.nothing;
       unit = c.stream_law.ensures.received_unit;
       refusal = c.stream_law.ensures.received_refusal;
@@ -108,8 +108,8 @@ returns-in_ok-fail_packet-in-Err g c =
     let r = c.args.reader.now in
     let below : Below = record { numbers = c.numbers_law.ensures.kind; alike = c.numbers_law.ensures.alike; right = c.markers_law.ensures.right } in
     let streams : Streams = record {
-      packets = c.parser_law.ensures.packets;
-      lines = c.parser_law.ensures.lines;
+      packets = c.parser_by_law.ensures.packets;
+      lines = c.parser_by_law.ensures.lines;
       nothing = c.stream_law.ensures.nothing;
       unit = c.stream_law.ensures.received_unit;
       refusal = c.stream_law.ensures.received_refusal;
@@ -133,7 +133,7 @@ returns-in_ok-fail_packet-in-Err g c =
           c.args.piece.now c.args.sent.now.items c.fail_packet.new.sent.items c.requires.open (state_data c.fail_packet.new.state) (last_used q) c.in-Err.fault true next leaves.1 ahead_is (told.gives true next));
       used = (
         subst (λ (n : ℕ). 0 < n) (sym used_is)
-            (refused_some (parse_packet (protection_at m (packet_reader_data r))) (c.parser_law.ensures.packets (protection_at m (packet_reader_data r))) (packet_reader_data r).held c.args.piece.now (last_used q) (OfPacket c.in-Err.fault) c.requires.reads.unfinished_is ahead_is),
+            (refused_some (parse_packet (protection_at m (packet_reader_data r))) (c.parser_by_law.ensures.packets (protection_at m (packet_reader_data r))) (packet_reader_data r).held c.args.piece.now (last_used q) (OfPacket c.in-Err.fault) c.requires.reads.unfinished_is ahead_is),
         subst (λ (n : ℕ). n ≤ length c.args.piece.now) (sym used_is) leaves.1,
       );
       reads = λ o. absurd (failed_over (fault_of (OfPacket c.in-Err.fault)) (end_data c.fail_packet.new.state.end) told.ends o);

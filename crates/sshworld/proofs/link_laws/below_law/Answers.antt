@@ -1,3 +1,5 @@
+use Rattle.std.proofs.Common.{◌++◌, length}
+use Rattle.sshwire.specs.declared.line_form.LineForm.TheVariants.{Strict}
 use Rattle.sshworld.proofs.link_laws.below_law.Goals as goal
 
 pub returns : goal.returns
@@ -5,7 +7,8 @@ returns c = record {
   laws = record {
     clear = c.writing_law.ensures.clear;
     sealed = c.writing_law.ensures.sealed;
-    preamble = c.parser_law.ensures.preamble;
+    preamble = λ form k text bytes more p. c.parser_by_law.ensures.wider form k (bytes ++ more) text (length bytes)
+        (c.parser_by_law.ensures.preamble Strict k text bytes more p);
     parsers = c.history_law.ensures.parsers;
     link = c.stream_law.ensures.link;
     all = c.stream_law.ensures.all;

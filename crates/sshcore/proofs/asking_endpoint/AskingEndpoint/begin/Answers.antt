@@ -1,4 +1,5 @@
 use Rattle.std.proofs.Common.{◌≡◌, true, [], refl, ap, ◌∙◌, subst}
+use Rattle.sshwire.specs.declared.line_form.LineForm.{LineForm}
 use Rattle.sshpacket.specs.KeysData.{KeysData}
 use Rattle.sshcore.specs.EndpointConfig.{config_data, role_of, setup_of}
 use Rattle.sshcore.specs.Brings.{Gives}
@@ -19,8 +20,8 @@ pub returns-clause-made : goal.returns-clause-made
 returns-clause-made g c =
     let below : Below = record { numbers = c.numbers_law.ensures.kind; alike = c.numbers_law.ensures.alike; right = c.markers_law.ensures.right } in
     let streams : Streams = record {
-      packets = c.parser_law.ensures.packets;
-      lines = c.parser_law.ensures.lines;
+      packets = c.parser_by_law.ensures.packets;
+      lines = c.parser_by_law.ensures.lines;
       nothing = c.stream_law.ensures.nothing;
       unit = c.stream_law.ensures.received_unit;
       refusal = c.stream_law.ensures.received_refusal;
@@ -42,7 +43,7 @@ returns-clause-made g c =
     record {
       added = sent.0;
       appended = sent.1;
-      begins = λ d. asks_none (setup_of m d c.args.config) new c.new.result [] sent.0 (begins_stands below streams (setup_of m d c.args.config) new c.new.result (preamble_of party) sent.0 true next stays gives refl (subst (λ (r : Side). Begins r c.new.result) c.role.ensures c.new.ensures));
+      begins = λ d. asks_none (setup_of m d c.args.config) new c.new.result [] sent.0 (begins_stands below streams (setup_of m d c.args.config) new c.new.result (preamble_of party) sent.0 true next stays gives refl (subst (λ (f : LineForm). Begins role f c.new.result) c.line_form.ensures (subst (λ (r : Side). Begins r c.line_form.result c.new.result) c.role.ensures c.new.ensures)));
       is_open = ap (λ (k : StateData). k.end) stays;
       waits_for_none = refl;
       is_role = refl;
@@ -62,7 +63,7 @@ invariant_of-result g c =
     let gives = subst (λ (k : StateData). Gives m party.seed true next k new (preamble_of party) sent.0 (goes (making m role party))) first (sent.2 true next) in
     let stays : new ≡ record (begun party) { sending = new.sending } = c.in_ok-send_greeting.ensures.stays ∙ ap (λ (k : StateData). record k { sending = new.sending }) first in
     record {
-      reads = λ ongoing. begins_reading m c.role.result c.new.result c.new.ensures;
+      reads = λ ongoing. begins_reading m c.role.result c.line_form.result c.new.result c.new.ensures;
       asked = tt;
       keeps = λ ongoing. begun_fits m role party new (preamble_of party) sent.0 true next stays gives;
     }

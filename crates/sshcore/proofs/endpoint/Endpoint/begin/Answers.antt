@@ -1,4 +1,5 @@
 use Rattle.std.proofs.Common.{◌≡◌, true, [], refl, ap, ◌∙◌, subst}
+use Rattle.sshwire.specs.declared.line_form.LineForm.{LineForm}
 use Rattle.sshpacket.specs.KeysData.{KeysData}
 use Rattle.sshcore.specs.EndpointConfig.{setup_of}
 use Rattle.sshcore.specs.Brings.{Gives}
@@ -17,8 +18,8 @@ pub returns-clause-made : goal.returns-clause-made
 returns-clause-made g c =
     let below : Below = record { numbers = c.numbers_law.ensures.kind; alike = c.numbers_law.ensures.alike; right = c.markers_law.ensures.right } in
     let streams : Streams = record {
-      packets = c.parser_law.ensures.packets;
-      lines = c.parser_law.ensures.lines;
+      packets = c.parser_by_law.ensures.packets;
+      lines = c.parser_by_law.ensures.lines;
       nothing = c.stream_law.ensures.nothing;
       unit = c.stream_law.ensures.received_unit;
       refusal = c.stream_law.ensures.received_refusal;
@@ -38,7 +39,7 @@ returns-clause-made g c =
     record {
       added = sent.0;
       appended = sent.1;
-      begins = begins_stands below streams setup new c.new.result (preamble_of setup.config) sent.0 true next stays gives refl (subst (λ (r : Side). Begins r c.new.result) c.role.ensures c.new.ensures);
+      begins = begins_stands below streams setup new c.new.result (preamble_of setup.config) sent.0 true next stays gives refl (subst (λ (f : LineForm). Begins setup.role f c.new.result) c.line_form.ensures (subst (λ (r : Side). Begins r c.line_form.result c.new.result) c.role.ensures c.new.ensures));
       is_open = ap (λ (k : StateData). k.end) stays;
       is_role = refl;
       is_config = refl;

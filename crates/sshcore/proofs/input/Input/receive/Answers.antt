@@ -1,25 +1,24 @@
 use Rattle.std.proofs.Common.{[], take, sym, ap, ◌∙◌, subst}
 use Rattle.sshwire.specs.Feeding.{StandsOpen}
-use Rattle.sshwire.specs.LineReaderData.{LineReaderData}
+use Rattle.sshwire.specs.LineReaderData.{PeerLineReaderData}
 use Rattle.sshcore.specs.declared.input.Input.{Input}
 use Rattle.sshcore.specs.declared.input.Input.TheVariants as input
 use Rattle.sshcore.specs.EndpointConfig.{setup_of}
 use Rattle.sshcore.specs.Exchange.{keys_by}
-use Rattle.sshcore.specs.ReceivesLines.{ReceivesLines}
 use Rattle.sshcore.specs.Inputs.{Steps}
 use Rattle.sshcore.specs.StateData.{state_data}
 use Rattle.sshcore.specs.Standing.{exchange_received}
 use Rattle.sshcore.proofs.Below.{Below}
 use Rattle.sshcore.proofs.HistoryLemmas.{Streams}
-use Rattle.sshcore.proofs.LineLemmas.{LineLaws, lines_part, lines_refused, lines_whole}
+use Rattle.sshcore.proofs.LineLemmas.{LineLaws, lines_part, lines_refused, lines_whole, named_lines}
 use Rattle.sshcore.proofs.input.Input.receive.Goals as goal
 
 pub returns-in-Whole-clause-steps : goal.returns-in-Whole-clause-steps
 returns-in-Whole-clause-steps g c =
     let below : Below = record { numbers = c.numbers_law.ensures.kind; alike = c.numbers_law.ensures.alike; right = c.markers_law.ensures.right } in
     let streams : Streams = record {
-      packets = c.parser_law.ensures.packets;
-      lines = c.parser_law.ensures.lines;
+      packets = c.parser_by_law.ensures.packets;
+      lines = c.parser_by_law.ensures.lines;
       nothing = c.stream_law.ensures.nothing;
       unit = c.stream_law.ensures.received_unit;
       refusal = c.stream_law.ensures.received_refusal;
@@ -29,7 +28,7 @@ returns-in-Whole-clause-steps g c =
       more = c.stream_law.ensures.read_more;
       sent = c.stream_law.ensures.sent_append;
     } in
-    let laws : LineLaws = record { only = c.parser_law.ensures.only; preamble = c.parser_law.ensures.preamble } in
+    let laws : LineLaws = record { only = c.parser_by_law.ensures.only; preamble = c.parser_by_law.ensures.preamble } in
     let setup = setup_of (g.S.Suite.meaning c.args.suite.now) (g.D.Decisions.policy c.args.decisions.now) c.args.config.now in
     let kept = state_data c.args.state.now in
     let last = state_data c.receive_lines.new.state in
@@ -39,14 +38,14 @@ returns-in-Whole-clause-steps g c =
     let used = c.in-Whole.used in
     subst (λ (i : Input). Steps setup i kept (input.Packets c.new.result) last (take used c.args.piece.now) c.args.sent.now.items c.args.sent.now.items) (sym (c.in-Lines.is ∙ ap input.Lines c.in-Lines.reader-is))
     (lines_whole laws below streams setup next old kept c.args.piece.now c.args.sent.now.items c.requires.open new c.new.result last used
-    (λ k bytes o. subst (λ x. ReceivesLines k bytes new kept last c.args.piece.now x) c.in-Whole.is (c.in_ok-received-in-Lines.ensures.lines k bytes (subst (λ (r : LineReaderData). StandsOpen k bytes r.progress) (sym c.in-Lines.reader-is) o))) c.new.ensures.state)
+    (λ k bytes o. named_lines k bytes new kept last c.args.piece.now c.in-Lines.reader-is c.in-Whole.is (c.in_ok-received-in-Lines.ensures.lines k bytes (subst (λ (r : PeerLineReaderData). StandsOpen k bytes r.state.progress) (sym c.in-Lines.reader-is) o))) c.new.ensures.state)
 
 pub returns-in-Part-clause-steps : goal.returns-in-Part-clause-steps
 returns-in-Part-clause-steps g c =
     let below : Below = record { numbers = c.numbers_law.ensures.kind; alike = c.numbers_law.ensures.alike; right = c.markers_law.ensures.right } in
     let streams : Streams = record {
-      packets = c.parser_law.ensures.packets;
-      lines = c.parser_law.ensures.lines;
+      packets = c.parser_by_law.ensures.packets;
+      lines = c.parser_by_law.ensures.lines;
       nothing = c.stream_law.ensures.nothing;
       unit = c.stream_law.ensures.received_unit;
       refusal = c.stream_law.ensures.received_refusal;
@@ -56,7 +55,7 @@ returns-in-Part-clause-steps g c =
       more = c.stream_law.ensures.read_more;
       sent = c.stream_law.ensures.sent_append;
     } in
-    let laws : LineLaws = record { only = c.parser_law.ensures.only; preamble = c.parser_law.ensures.preamble } in
+    let laws : LineLaws = record { only = c.parser_by_law.ensures.only; preamble = c.parser_by_law.ensures.preamble } in
     let setup = setup_of (g.S.Suite.meaning c.args.suite.now) (g.D.Decisions.policy c.args.decisions.now) c.args.config.now in
     let kept = state_data c.args.state.now in
     let last = state_data c.receive_lines.new.state in
@@ -66,14 +65,15 @@ returns-in-Part-clause-steps g c =
     let used = c.in-Part.used in
     subst (λ (i : Input). Steps setup i kept (input.Lines new) last (take used c.args.piece.now) c.args.sent.now.items c.args.sent.now.items) (sym (c.in-Lines.is ∙ ap input.Lines c.in-Lines.reader-is))
     (lines_part laws below streams setup next old kept c.args.piece.now c.args.sent.now.items c.requires.open new last used
-    (λ k bytes o. subst (λ x. ReceivesLines k bytes new kept last c.args.piece.now x) c.in-Part.is (c.in_ok-received-in-Lines.ensures.lines k bytes (subst (λ (r : LineReaderData). StandsOpen k bytes r.progress) (sym c.in-Lines.reader-is) o))))
+    (λ k bytes o. named_lines k bytes new kept last c.args.piece.now c.in-Lines.reader-is c.in-Part.is (c.in_ok-received-in-Lines.ensures.lines k bytes (subst (λ (r : PeerLineReaderData). StandsOpen k bytes r.state.progress) (sym c.in-Lines.reader-is) o)))
+    (c.receive_lines.ensures.form ∙ ap (λ (r : PeerLineReaderData). r.form) c.in-Lines.reader-is))
 
 pub returns-in-Refused-clause-steps : goal.returns-in-Refused-clause-steps
 returns-in-Refused-clause-steps g c =
     let below : Below = record { numbers = c.numbers_law.ensures.kind; alike = c.numbers_law.ensures.alike; right = c.markers_law.ensures.right } in
     let streams : Streams = record {
-      packets = c.parser_law.ensures.packets;
-      lines = c.parser_law.ensures.lines;
+      packets = c.parser_by_law.ensures.packets;
+      lines = c.parser_by_law.ensures.lines;
       nothing = c.stream_law.ensures.nothing;
       unit = c.stream_law.ensures.received_unit;
       refusal = c.stream_law.ensures.received_refusal;
@@ -83,7 +83,7 @@ returns-in-Refused-clause-steps g c =
       more = c.stream_law.ensures.read_more;
       sent = c.stream_law.ensures.sent_append;
     } in
-    let laws : LineLaws = record { only = c.parser_law.ensures.only; preamble = c.parser_law.ensures.preamble } in
+    let laws : LineLaws = record { only = c.parser_by_law.ensures.only; preamble = c.parser_by_law.ensures.preamble } in
     let setup = setup_of (g.S.Suite.meaning c.args.suite.now) (g.D.Decisions.policy c.args.decisions.now) c.args.config.now in
     let kept = state_data c.args.state.now in
     let last = state_data c.receive_lines.new.state in
@@ -93,4 +93,4 @@ returns-in-Refused-clause-steps g c =
     let used = c.in-Refused.used in
     subst (λ (i : Input). Steps setup i kept (input.Lines new) last (take used c.args.piece.now) c.args.sent.now.items c.args.sent.now.items) (sym (c.in-Lines.is ∙ ap input.Lines c.in-Lines.reader-is))
     (lines_refused laws below streams setup next old kept c.args.piece.now c.args.sent.now.items c.requires.open new (input.Lines new) last used
-    (λ k bytes o. subst (λ x. ReceivesLines k bytes new kept last c.args.piece.now x) c.in-Refused.is (c.in_ok-received-in-Lines.ensures.lines k bytes (subst (λ (r : LineReaderData). StandsOpen k bytes r.progress) (sym c.in-Lines.reader-is) o))))
+    (λ k bytes o. named_lines k bytes new kept last c.args.piece.now c.in-Lines.reader-is c.in-Refused.is (c.in_ok-received-in-Lines.ensures.lines k bytes (subst (λ (r : PeerLineReaderData). StandsOpen k bytes r.state.progress) (sym c.in-Lines.reader-is) o))))

@@ -1,8 +1,7 @@
 use Rattle.sshwire.specs.declared.line_form.LineForm.{LineForm}
 use Rattle.sshwire.specs.declared.line_form.LineForm.TheVariants.{Strict}
-use Rattle.sshpacket.proofs.Parsers.{IsLinesLaw, lines_found, lines_only, lines_parser, lines_wider, preamble_seen}
-use Rattle.sshpacket.proofs.ReceivingLemmas.{IsLinesParser, receives_lines, stands}
-use Rattle.sshpacket.proofs.stream_laws.lines_by_law.Goals as goal
+use Rattle.sshpacket.proofs.Parsers.{IsLinesLaw, lines_found, lines_only, lines_parser, lines_wider, packets_parser, preamble_seen}
+use Rattle.sshpacket.proofs.stream_laws.parser_by_law.Goals as goal
 
 law : (c : goal.After-reading_by_law) (form : LineForm) → IsLinesLaw form
 law c form = record {
@@ -14,8 +13,8 @@ law c form = record {
   used = c.reading_by_law.ensures.used form;
 }
 
-lines : (c : goal.After-reading_by_law) (form : LineForm) → IsLinesParser form
-lines c form = record { only = lines_only form (law c form); preamble = preamble_seen form (law c form) }
+pub returns-clause-packets : goal.returns-clause-packets
+returns-clause-packets c = packets_parser
 
 pub returns-clause-lines : goal.returns-clause-lines
 returns-clause-lines c = λ form. lines_parser form (law c form)
@@ -31,9 +30,3 @@ returns-clause-preamble c = λ form. preamble_seen form (law c form)
 
 pub returns-clause-wider : goal.returns-clause-wider
 returns-clause-wider c = λ form. lines_wider form (law c Strict) (law c form) (c.reading_by_law.ensures.wider_preamble form)
-
-pub returns-clause-stands : goal.returns-clause-stands
-returns-clause-stands c = λ form. stands form (lines c form)
-
-pub returns-clause-receives_lines : goal.returns-clause-receives_lines
-returns-clause-receives_lines c = λ form. receives_lines form (lines c form)
