@@ -4,7 +4,7 @@ PROTOCOL.chacha20poly1305, over the ChaCha20 and Poly1305 of RFC 8439), and of d
 import hashlib
 import random
 
-from lab import hexa, string, u32
+from lab import hexa, public_part, string, u32
 
 P = 2 ** 255 - 19
 L = 2 ** 252 + 27742317777372353535851937790883648493
@@ -368,7 +368,8 @@ def signatures(calls):
         refused(calls, key, data, signature)
     for n in (0, 1, 31, 33, 64, 200):
         secret = calls.bytes(n)
-        calls.row("key of %d bytes" % n, "blob %s %s %s" % (ALGORITHM, hexa(secret), hexa(wrapped(key_of(secret)))),
+        # the suite doesn't hold it, and tells none of its bytes; it signs by what they are hashed to
+        calls.row("key of %d bytes" % n, "blob %s %s %s" % (ALGORITHM, hexa(secret), hexa(public_part(secret))),
                   "sign %s %s %s %s" % (ALGORITHM, hexa(secret), "aa", hexa(wrapped(signature_of(secret, b"\xaa")))))
     small_orders(calls)
 

@@ -18,8 +18,12 @@ shared_of = functools.lru_cache(maxsize=None)(deployed.shared)
 signature_by = functools.lru_cache(maxsize=None)(deployed.signature_of)
 
 
-def offer(role, strict=True):
-    return kexinit(role, (deployed.METHOD,), (deployed.ALGORITHM,), strict=strict, cs=CIPHER, sc=CIPHER)
+def offer(role, strict=True, host=deployed.ALGORITHM):
+    return kexinit(role, (deployed.METHOD,), (host,), strict=strict, cs=CIPHER, sc=CIPHER)
+
+
+def reply_of(key, signature):
+    return b"\x1f" + string(key) + string(SHARE[SERVER]) + string(signature)
 
 
 def packet_of(payload, seq, seed, keys):
@@ -74,7 +78,7 @@ class DeployedReceiver(Receiver):
 
     @staticmethod
     def reply(h):
-        return b"\x1f" + string(KEY) + string(SHARE[SERVER]) + string(deployed.wrapped(signature_by(HOST, h)))
+        return reply_of(KEY, deployed.wrapped(signature_by(HOST, h)))
 
     @staticmethod
     def is_signed(key, h, signature):
@@ -87,19 +91,20 @@ class DeployedReceiver(Receiver):
 
 
 class DeployedTalk:
-    """Both sides up to the accepted service."""
+    """Both sides up to the accepted service, by the server's own key, or by another one: its algorithm, the public key, and what signs."""
 
-    def __init__(self):
+    def __init__(self, host=(deployed.ALGORITHM, KEY, lambda h: deployed.wrapped(signature_by(HOST, h)))):
         self.strict, c, s = True, DeployedHalf(CLIENT), DeployedHalf(SERVER)
         self.c, self.s = c, s
-        self.ci, self.si = offer(CLIENT), offer(SERVER)
+        algorithm, key, sign_ = host
+        self.ci, self.si = offer(CLIENT, host=algorithm), offer(SERVER, host=algorithm)
         c.sent = s.sent = LINE
         c.send(self.ci)
         s.send(self.si)
         self.c_first, self.s_first = c.sent, s.sent
         k = deployed.shared(RANDOM[CLIENT], SHARE[SERVER])
-        self.hash = sha(*(string(x) for x in (LINE[:-2], LINE[:-2], self.ci, self.si, KEY, SHARE[CLIENT], SHARE[SERVER], k)))
-        self.c_init, self.s_reply = c.send(DeployedReceiver.INIT), s.send(DeployedReceiver.reply(self.hash))
+        self.hash = sha(*(string(x) for x in (LINE[:-2], LINE[:-2], self.ci, self.si, key, SHARE[CLIENT], SHARE[SERVER], k)))
+        self.c_init, self.s_reply = c.send(DeployedReceiver.INIT), s.send(reply_of(key, sign_(self.hash)))
         self.s_newkeys = s.switch(DeployedReceiver.keys_of(SERVER, k, self.hash), True)
         self.c_newkeys = c.switch(DeployedReceiver.keys_of(CLIENT, k, self.hash), True)
         self.c_service, self.s_accept = c.send(service(5, "ssh-userauth")), s.send(service(6, "ssh-userauth"))

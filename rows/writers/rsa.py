@@ -4,7 +4,7 @@ import hashlib
 import random
 
 import deployed
-from lab import hexa, string
+from lab import hexa, public_part, string
 
 NAMES = ("rsa-sha2-256", "rsa-sha2-512")
 # RFC 8017 section 9.2, note 1: the digest's name in DigestInfo, and the digest
@@ -216,11 +216,12 @@ def exponents(calls):
 
 
 def own_keys(calls):
-    """What the suite signs by these names is ssh-ed25519's, which none of them verifies."""
+    """The suite holds no key of these names, and tells nothing of bytes that aren't a public key. What it signs by them is ssh-ed25519's, which
+    none of them verifies."""
     secret, data = calls.bytes(32), calls.bytes(20)
     blob, signature = deployed.wrapped(deployed.key_of(secret)), deployed.wrapped(deployed.signature_of(secret, data))
     for name in NAMES:
-        calls.row("RSA, signed", "blob %s %s %s" % (name, hexa(secret), hexa(blob)), "sign %s %s %s %s" % (name, hexa(secret), hexa(data), hexa(signature)),
+        calls.row("RSA, signed", "blob %s %s %s" % (name, hexa(secret), hexa(public_part(secret))), "sign %s %s %s %s" % (name, hexa(secret), hexa(data), hexa(signature)),
                   deployed.verify_line(blob, data, signature, False, name))
 
 

@@ -1,6 +1,7 @@
 """Rows with one wrong expectation each, which a judge has to refuse: what they differ in from a right row is told by their names."""
 from lab import *
 from requests import half
+from signatures import KEY, by_signature, input_of, tries
 
 
 def rows(file):
@@ -21,6 +22,7 @@ def rows(file):
     file.row("a world stands still", "world", "rounds 9", "client open", "server open")
     questions(file, t)
     waiting(file, t)
+    signatures(file, t)
     notices(file, t)
     disconnecting(file, t)
     linked(file, t)
@@ -66,6 +68,60 @@ def waiting(file, t):
     file.row("no end behind an answer", start, by_key_, asks, "end open", "answer yes", sent)
     file.row("another count of one whose decisions answer", "begin" + start[0][7:], start[1:], "verified 1", "end open")
     file.row("no answer for one whose decisions answer", "begin" + start[0][7:], start[1:], "answer no", "end open")
+
+
+def signatures(file, t):
+    """Signatures that are asked for."""
+    trusted = [tries(KEY), "waiting client elsewhere", feed(t.s_first, t.s_reply), says(t.c_first, t.c_init), "answer yes", says(t.c_newkeys, t.c_service), feed(t.s_newkeys, t.s_accept)]
+    key, data = hexa(BLOB), hexa(input_of(t.hash))
+    signature = sign("h", b"\x00", input_of(t.hash))
+    asks, made, other_ = "signature 0 h %s %s" % (key, data), "signature 0 " + hexa(signature), "signature 1 " + hexa(signature)
+    signed, unsigned = says(half(t.c).send(by_signature(signature))), says(half(t.c).send(by_none()))
+    answer = "answer signature " + hexa(signature)
+    for name, what in (("nothing", "nothing"), ("another number", "signature 1 h %s %s" % (key, data)), ("another algorithm", "signature 0 g %s %s" % (key, data)),
+                       ("another key", "signature 0 h 00 " + data), ("another input", "signature 0 h %s 00" % key), ("no input", "signature 0 h %s -" % key),
+                       ("a host key", "host_key h " + key)):
+        file.row("one that waits for a signature is said to ask %s" % name, trusted, "question " + what, "end open")
+        file.row("one that decides on a signature is said to be asked %s" % name, tries(KEY), "begin client elsewhere", made, feed(t.s_first, t.s_reply),
+                 says(t.c_first, t.c_init, t.c_newkeys, t.c_service), asked("host_key"), feed(t.s_newkeys, t.s_accept), signed, "asked " + what, "end open")
+    file.row("one that waits for a signature has sent it", trusted, signed, "end open")
+    file.row("a signature is sent as refused", trusted, answer, unsigned, "end open")
+    file.row("a refused signature is sent", trusted, "answer unsigned", signed, "end open")
+    file.row("a yes is a signature", trusted, "answer yes", signed, "end open")
+    file.row("a signature of a byte less is sent", trusted, answer[:-2], signed, "end open")
+    file.row("a signature of 8193 bytes is sent", trusted, "answer signature 8193*5a", says(half(t.c).send(by_signature(b"\x5a" * 8193))), "end open")
+    file.row("a signature of 8192 bytes is refused", trusted, "answer signature 8192*5a", unsigned, "end open")
+    for what in ("signed", "unsigned 00", "signature x"):
+        file.row("an answer that is none: %s" % what, trusted, "answer " + what, unsigned, "end open")
+    file.row("no end behind a signature", trusted, "end open", answer, signed)
+    file.row("the suite signs for a key that is elsewhere", trusted, answer, signed, "signed 1", "end open")
+    file.row("one that waits uses bytes behind the question for a signature", trusted, feed(half(t.s).send(SUCCESS)), "end authenticated al ssh-connection")
+    heard = feed(t.s_first, t.s_reply, t.s_newkeys, t.s_accept)
+    signs = says(t.c_first, t.c_init, t.c_newkeys, t.c_service, half(t.c).send(by_signature(signature)))
+    questions_ = asked("host_key", asks)
+    file.row("a question for a signature isn't judged", tries(KEY), "begin client elsewhere", made, heard, signs, asked("host_key"), "end open")
+    for name, lines in (("no signature", []), ("a signature of another number", [other_]), ("a signature behind a line", ["held 0", made]),
+                        ("three signatures", [other_, other_, made]), ("a signature of no number", ["signature x " + hexa(signature)])):
+        file.row("decisions sign by " + name, tries(KEY), "begin client elsewhere", lines, heard, signs, questions_, "end open")
+    held = [tries("publickey h 00"), "begin client"]
+    by_suite = says(t.c_first, t.c_init, t.c_newkeys, t.c_service, half(t.c).send(by_key(t.hash)))
+    file.row("a signature for a key that the suite holds", held, made, heard, by_suite, asked("host_key"), "end open")
+    file.row("one whose suite holds the key asks", held, heard, by_suite, questions_, "end open")
+    for count in (0, 2):
+        file.row("a suite signs %d times" % count, held, heard, by_suite, asked("host_key"), "signed %d" % count, "end open")
+    file.row("an endpoint over no suite", tries(KEY), "begin client nowhere", says(t.c_first), "end open")
+    server = [["server hostkey h " + key], "waiting server elsewhere", feed(t.c_first, t.c_init), says(t.s_first)]
+    file.row("a server's question for a signature has another number", server, "question signature 1 h %s %s" % (key, t.hash.hex()), "end open")
+    file.row("a server goes on without a signature", server, "answer unsigned", says(t.s_reply, t.s_newkeys), "end open")
+    file.row("a server without a signature fails as by another fault", server, "answer unsigned", says(packet(disconnect(3), 1, SEED[SERVER])), "end failed F11")
+    file.row("the suite of keys elsewhere holds one", "suite elsewhere", "holds h 00 yes")
+    file.row("the lab suite doesn't hold a key", "suite lab", "holds h 00 no")
+    file.row("the deployed suite holds a key of 31 bytes", "suite deployed", "holds ssh-ed25519 31*00 yes")
+    for name, lines, verdict in (("a key that is elsewhere is refused", [], "C14: private key 0 is none of ssh-ed25519 by which the suite signs"),
+                                 ("a cipher that nobody has fits", ["cipher_cs 'none"], "fits")):
+        file.row(name, "config server", "kex 'curve25519-sha256", "hostkeys 'ssh-ed25519", "cipher_cs 'aes256-gcm@openssh.com", "cipher_sc 'aes256-gcm@openssh.com", lines,
+                 "named " + verdict)
+    file.row("a public key that is elsewhere is another", "suite elsewhere", "blob h 00 01")
 
 
 def notices(file, t):

@@ -2,7 +2,7 @@
 
 use Rattle.std.proofs.Common.{◌≡◌, ◌≢◌, ◌∙◌, ℕ, ◌+◌, ◌-◌, ◌≤◌, ◌<◌, Bool, true, false, List, [], ◌∷◌, ◌++◌, Option, None, Some, suc, zero, ap, arith, drop, inl, inr, is_some, length, map, option_map, refl, sym, subst, take}
 use Rattle.std.proofs.lemmas.Bool.{true≢false}
-use Rattle.std.proofs.lemmas.List.{length-append, length-drop, length-take-le, map-append, take-append-drop, take-append-le}
+use Rattle.std.proofs.lemmas.List.{length-append, length-drop, length-take-le, take-append-drop, take-append-le}
 use Rattle.std.proofs.Math.Seq.{take-add, take-append_seam, take-length}
 use Rattle.sshneg.specs.declared.side.Side.{Side}
 use Rattle.sshpacket.specs.Suite.{SuiteData}
@@ -17,14 +17,14 @@ use Rattle.sshcore.specs.Dialogue.{Answers, Dialogue, Feeds, Makes}
 use Rattle.sshcore.specs.EndData.{AgreedData, Authenticated, Closed, Disconnected, EndData, Failed, Open, by_owner}
 use Rattle.sshcore.specs.EndpointParts.{ConfigData, DecisionsData, Setup, setup_with}
 use Rattle.sshcore.specs.Inputs.{EndpointStands}
-use Rattle.sshcore.specs.Questions.{QuestionData, decided, decided_by, question_at}
+use Rattle.sshcore.specs.Questions.{Decided, QuestionData, decided, decided_by, question_at, taken}
 use Rattle.sshcore.specs.QuestionsView.{question_data}
 use Rattle.sshcore.specs.Sessions.{IsSession}
 use Rattle.sshcore.specs.StateData.{StateData, state_data}
 use Rattle.sshcore.specs.Unread.{AskingStands, IsUnread}
 use Rattle.rezdolin.specs.declared.answers.EndNumbers.{EndNumbers}
 use Rattle.rezdolin.specs.Answers.{end_numbers}
-use Rattle.rezdolin.specs.Asks.{AreTooMany, Asks, AsksNoMore, Asked, Begins, ComesTo, EndsSo, IsAskingTalk, is_yes, told_end, told_question}
+use Rattle.rezdolin.specs.Asks.{AreTooMany, Asks, GivenMore, NothingGiven, AsksNoMore, Asked, Begins, ComesTo, EndsSo, IsAskingTalk, is_yes, told_end, told_question}
 use Rattle.rezdolin.specs.Carried.{IsCarried, IsReadOn, WentOn}
 use Rattle.rezdolin.specs.Records.{record_of, spelled}
 
@@ -32,10 +32,6 @@ use Rattle.rezdolin.specs.Records.{record_of, spelled}
 gave_all : (d : DecisionsData) (met : List AnsweredData) (x : AnsweredData) → GiveAll d (met ++ x ∷ []) → GiveAll d met × (decided d x.question ≡ x.answer)
 gave_all d [] x all = (tt, all.0)
 gave_all d (y ∷ met) x all = let rest = gave_all d met x all.1 in ((all.0, rest.0), rest.1)
-
-answers_more : (met : List AnsweredData) (x : AnsweredData) (answers : List Bool) → map (λ (y : AnsweredData). y.answer) met ≡ answers
-    → map (λ (y : AnsweredData). y.answer) (met ++ x ∷ []) ≡ answers ++ x.answer ∷ []
-answers_more met x answers e = map-append (λ (y : AnsweredData). y.answer) met (x ∷ []) ∙ ap (λ (bs : List Bool). bs ++ x.answer ∷ []) e
 
 not_true : (b : Bool) → (b ≡ true → ⊥) → b ≡ false
 not_true true not = absurd (not refl)
@@ -61,7 +57,7 @@ open_idle : (end : EndData) (w : Option WaitingData) → end ≡ Open → asked_
 open_idle end None o e = refl
 open_idle end (Some p) o e = let bad : ◌≡◌ {A = Option QuestionData} (Some p.question) None = ap (λ (x : EndData). asked_at x (Some p)) (sym o) ∙ e in absurd cc
 
-some_of : (q : Option QuestionData) → is_some q ≡ true → (x : QuestionData) × (q ≡ Some x)
+pub some_of : (q : Option QuestionData) → is_some q ≡ true → (x : QuestionData) × (q ≡ Some x)
 some_of None e = absurd cc
 some_of (Some x) e = (x, refl)
 
@@ -163,7 +159,7 @@ module _ {S : Type 0} (m : SuiteData) where
     met = [];
     last = 0;
     in_order = Begins;
-    answers_are = refl;
+    answers_are = NothingGiven;
     dialogue = subst (λ (xs : List ℕ). Dialogue (λ (suite : S). m) new [] (take used received) xs)
         (sym (read.fed.appended ∙ ap (λ (xs : List ℕ). xs ++ read.fed.added) made.appended))
         (Feeds old new [] [] made.added (take used received) before after (Makes old.role old.party old.suite old [] before made) read.fed
@@ -184,10 +180,10 @@ module _ {S : Type 0} (m : SuiteData) where
       → IsCarried m role party answers received used old before → WentOn (λ (suite : S). m) allowed old new (drop used received) n before after
       → IsCarried m role party (answers ++ allowed ∷ []) received (used + n) new after
   went_on role party answers allowed received used n old new before after c w =
-      let q = some_of (asked_by old) w.asked in
-      let x : AnsweredData = record { question = q.0; answer = allowed } in
+      let x : AnsweredData = record { question = w.question; answer = taken w.question (Decided allowed) } in
       let fed = w.read.fed in
-      let agrees : (d : DecisionsData) → GiveAll d (c.met ++ x ∷ []) → decided_by d (asked_by old) ≡ allowed = λ d g. ap (decided_by d) q.1 ∙ (gave_all d c.met x g).1 in
+      let agrees : (d : DecisionsData) → GiveAll d (c.met ++ x ∷ []) → decided_by d (asked_by old) ≡ taken w.question (Decided allowed)
+      = λ d g. ap (decided_by d) w.asked ∙ (gave_all d c.met x g).1 in
       let earlier : (d : DecisionsData) → GiveAll d (c.met ++ x ∷ []) → AskingAfter (λ (suite : S). m) d old (take used received) before = λ d g. c.follows d (gave_all d c.met x g).0 in
       let stood : (d : DecisionsData) → GiveAll d (c.met ++ x ∷ []) → AskingAfter (λ (suite : S). m) d w.mid (take used received) (before ++ w.answered.added)
       = λ d g. w.answered.follows d (agrees d g) (take used received) before (earlier d g) in
@@ -196,13 +192,13 @@ module _ {S : Type 0} (m : SuiteData) where
       record {
         met = c.met ++ x ∷ [];
         last = used;
-        in_order = Asked c.met c.last used before q.0 allowed c.in_order (c.later w.asked)
-            (λ d g. asks_here old role party received used before q.0 d c.same_role c.same_party c.within w.by_packet q.1 (c.follows d g));
-        answers_are = answers_more c.met x answers c.answers_are;
+        in_order = Asked c.met c.last used before w.question allowed c.in_order (c.later (ap is_some w.asked))
+            (λ d g. asks_here old role party received used before w.question d c.same_role c.same_party c.within w.by_packet w.asked (c.follows d g));
+        answers_are = GivenMore c.met answers w.question allowed c.answers_are;
         dialogue = subst (λ (xs : List ℕ). Dialogue (λ (suite : S). m) new (c.met ++ x ∷ []) xs after) (sym (take-add used n received))
             (subst (λ (xs : List ℕ). Dialogue (λ (suite : S). m) new (c.met ++ x ∷ []) (take used received ++ take n (drop used received)) xs) (sym sent_is)
             (Feeds w.mid new (c.met ++ x ∷ []) (take used received) (before ++ w.answered.added) (take n (drop used received)) w.between after
-            (Answers old w.mid c.met q.0 allowed (take used received) before before w.between c.dialogue w.by_packet q.1 w.answered) fed
+            (Answers old w.mid c.met w.question (Decided allowed) (take used received) before before w.between c.dialogue w.by_packet w.asked w.answered) fed
             (λ e. w.read.nothing (none_used n (drop used received) w.read.within e))));
         follows = λ d g. subst (λ (xs : List ℕ). AskingAfter (λ (suite : S). m) d new xs after) (sym (take-add used n received))
             (subst (λ (xs : List ℕ). AskingAfter (λ (suite : S). m) d new (take used received ++ take n (drop used received)) xs) (sym sent_is)

@@ -11,12 +11,12 @@ use Rattle.sshcore.specs.AskingData.{WaitingData}
 use Rattle.sshcore.specs.EndData.{AgreedData, Authenticated, EndData, Failed, Open, by_owner, end_data}
 use Rattle.sshcore.specs.EndpointParts.{DecisionsData, KeyProof, NoProof, PasswordProof, ProofData, Setup}
 use Rattle.sshcore.specs.Inputs.{EndpointStands}
-use Rattle.sshcore.specs.Questions.{HostKeyQuestion, QuestionData, UserQuestion, question_at}
+use Rattle.sshcore.specs.Questions.{Decided, HostKeyQuestion, QuestionData, SignatureQuestion, UserQuestion, question_at, taken}
 use Rattle.sshcore.specs.StateData.{state_data}
 use Rattle.sshcore.specs.Unread.{AskingStands, IsUnread}
 use Rattle.rezdolin.specs.declared.answers.EndNumbers.{EndNumbers}
 use Rattle.rezdolin.specs.declared.answers.EndpointAnswer.{EndpointAnswer}
-use Rattle.rezdolin.specs.declared.answers.TheConstants.{ASKS_HOST_KEY, ASKS_USER, END_ASKS}
+use Rattle.rezdolin.specs.declared.answers.TheConstants.{ASKS_HOST_KEY, ASKS_SIGNATURE, ASKS_USER, END_ASKS}
 use Rattle.rezdolin.specs.declared.inputs.TheConstants.{METHOD_NONE, METHOD_PASSWORD, METHOD_PUBLICKEY}
 use Rattle.rezdolin.specs.Answers.{end_numbers, no_room, three}
 use Rattle.rezdolin.specs.Records.{strings}
@@ -29,7 +29,7 @@ method_of (PasswordProof password) = METHOD_PASSWORD
 method_of (KeyProof algorithm key) = METHOD_PUBLICKEY
 
 -- The fields of a question: what it asks of; the request's number, user and service, of a host key none; the method by which the request
--- proves its user; the algorithm and the key; and the password.
+-- proves its user; the algorithm and the key; and the password, or what is to be signed.
 abbrev pub proof_fields : ProofData → List (List ℕ)
 proof_fields NoProof = uint32 (method_of NoProof) ∷ [] ∷ [] ∷ [] ∷ []
 proof_fields (PasswordProof password) = uint32 (method_of (PasswordProof password)) ∷ [] ∷ [] ∷ password ∷ []
@@ -38,6 +38,7 @@ proof_fields (KeyProof algorithm key) = uint32 (method_of (KeyProof algorithm ke
 abbrev pub question_fields : QuestionData → List (List ℕ)
 question_fields (HostKeyQuestion algorithm key) = (ASKS_HOST_KEY ∷ []) ∷ [] ∷ [] ∷ [] ∷ [] ∷ algorithm ∷ key ∷ [] ∷ []
 question_fields (UserQuestion number user service proof) = (ASKS_USER ∷ []) ∷ uint32 number ∷ user ∷ service ∷ proof_fields proof
+question_fields (SignatureQuestion number algorithm key input) = (ASKS_SIGNATURE ∷ []) ∷ [] ∷ [] ∷ [] ∷ [] ∷ algorithm ∷ key ∷ input ∷ []
 
 -- as bytes, and none where nothing is asked
 abbrev pub question_bytes : QuestionData → List ℕ
@@ -59,6 +60,12 @@ AreAnswers answers = AllByRecursion (λ answer. answer ≤ 1) answers
 abbrev pub is_yes : ℕ → Bool
 is_yes answer = answer == 1
 
+-- these answers were given to these questions, one after the other; yes or no to a question for a signature is none
+pub data AreGiven : List AnsweredData → List Bool → Type 0 where
+  NothingGiven : AreGiven [] []
+  GivenMore : (met : List AnsweredData) (answers : List Bool) (question : QuestionData) (allowed : Bool) → AreGiven met answers
+      → AreGiven (met ++ record { question = question; answer = taken question (Decided allowed) } ∷ []) (answers ++ allowed ∷ [])
+
 -- An endpoint has used so many of these bytes, the last of which are a packet that asks this; it is open, and has sent these before it
 -- answers that packet.
 pub record Asks (setup : Setup) (received : List ℕ) (used : ℕ) (sent : List ℕ) (question : QuestionData) : Type 0 where
@@ -76,7 +83,7 @@ pub data WereAsked (setup : DecisionsData → Setup) (received : List ℕ) : Lis
   Begins : WereAsked setup received [] 0
   Asked : (met : List AnsweredData) (last used : ℕ) (sent : List ℕ) (question : QuestionData) (allowed : Bool) → WereAsked setup received met last → last < used
       → ((d : DecisionsData) → GiveAll d met → Asks (setup d) received used sent question)
-      → WereAsked setup received (met ++ record { question = question; answer = allowed } ∷ []) used
+      → WereAsked setup received (met ++ record { question = question; answer = taken question (Decided allowed) } ∷ []) used
 
 -- An endpoint that asks no more was fed with these bytes, and is one that asks nobody, as IsTalk tells. Of one that failed or was
 -- closed it may be that it has used one packet more than it has acted upon; else it has acted upon all that it has used.
@@ -102,7 +109,7 @@ pub record IsAskingTalk (setup : DecisionsData → Setup) (answers received : Li
   pub met : List AnsweredData
   pub last : ℕ
   pub in_order : WereAsked setup received met last
-  pub answers_are : map (λ (x : AnsweredData). x.answer) met ≡ map is_yes answers
+  pub answers_are : AreGiven met (map is_yes answers)
   pub once : IsAskedOnce (map (λ (x : AnsweredData). x.question) met)
   pub some : (d : DecisionsData) × GiveAll d met
   pub comes_to : ComesTo setup met last received used sent end spelled question
@@ -164,7 +171,7 @@ pub record AreTooMany (setup : DecisionsData → Setup) (answers received : List
   pub met : List AnsweredData
   pub last : ℕ
   pub in_order : WereAsked setup received met last
-  pub answers_are : map (λ (x : AnsweredData). x.answer) met ≡ map is_yes (take count answers)
+  pub answers_are : AreGiven met (map is_yes (take count answers))
   pub comes_to : (d : DecisionsData) → GiveAll d met → AsksNoMore (setup d) received
 
 -- why answers can't be read: one of them is no answer, or they are too many

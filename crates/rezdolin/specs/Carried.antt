@@ -1,6 +1,6 @@
 -- How an endpoint that asks stands within a call, between its own calls.
 
-use Rattle.std.specs.Prelude.{◌≡◌, ◌≢◌, ℕ, ◌≤◌, ◌<◌, Bool, false, true, List, is_some, length, map, take, None, Some}
+use Rattle.std.specs.Prelude.{◌≡◌, ◌≢◌, ℕ, ◌≤◌, ◌<◌, Bool, false, true, List, is_some, length, take, None, Some}
 use Rattle.sshneg.specs.declared.side.Side.{Side}
 use Rattle.sshpacket.specs.Suite.{SuiteData}
 use Rattle.sshcore.specs.declared.end.Fault.TheVariants as fault
@@ -10,9 +10,9 @@ use Rattle.sshcore.specs.AskingData.{AskingData, WaitingData}
 use Rattle.sshcore.specs.Dialogue.{Dialogue}
 use Rattle.sshcore.specs.EndData.{Failed, Open, by_owner}
 use Rattle.sshcore.specs.EndpointParts.{ConfigData, DecisionsData, setup_with}
-use Rattle.sshcore.specs.Questions.{question_at}
+use Rattle.sshcore.specs.Questions.{Decided, QuestionData, question_at, taken}
 use Rattle.sshcore.specs.StateData.{state_data}
-use Rattle.rezdolin.specs.Asks.{WereAsked}
+use Rattle.rezdolin.specs.Asks.{AreGiven, WereAsked}
 
 -- It was fed with so many of these bytes: all, unless it has ended or asks. A call that used none asks nothing else.
 pub record IsReadOn {S : Type 0} (meaning : S → SuiteData) (old new : AskingData S) (rest : List ℕ) (used : ℕ) (before after : List ℕ) : Type 0 where
@@ -24,12 +24,13 @@ pub record IsReadOn {S : Type 0} (meaning : S → SuiteData) (old new : AskingDa
 
 -- It asked, was given this answer, and then these bytes.
 pub record WentOn {S : Type 0} (meaning : S → SuiteData) (allowed : Bool) (old new : AskingData S) (rest : List ℕ) (used : ℕ) (before after : List ℕ) : Type 0 where
-  pub asked : is_some (asked_by old) ≡ true
+  pub question : QuestionData
+  pub asked : asked_by old ≡ Some question
   pub by_packet : (w : WaitingData) → old.waiting ≡ Some w → asking_end old ≡ Open
       → question_at (meaning old.suite) old.role old.party (state_data old.state) w.payload ≡ Some w.question
   pub mid : AskingData S
   pub between : List ℕ
-  pub answered : Answered meaning allowed old mid before between
+  pub answered : Answered meaning (taken question (Decided allowed)) old mid before between
   pub kept : asking_end mid ≡ Failed fault.Memory → asking_end old ≡ Failed fault.Memory
   pub read : IsReadOn meaning mid new rest used between after
 
@@ -39,7 +40,7 @@ pub record IsCarried {S : Type 0} (m : SuiteData) (role : Side) (party : ConfigD
   pub met : List AnsweredData
   pub last : ℕ
   pub in_order : WereAsked (λ d. setup_with m d role party) received met last
-  pub answers_are : map (λ (x : AnsweredData). x.answer) met ≡ answers
+  pub answers_are : AreGiven met answers
   pub dialogue : Dialogue (λ (suite : S). m) e met (take used received) sent
   pub follows : (d : DecisionsData) → GiveAll d met → AskingAfter (λ (suite : S). m) d e (take used received) sent
   pub own : (d : DecisionsData) → GiveAll d met → by_owner (asking_end e) ≡ false

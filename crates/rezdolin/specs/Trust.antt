@@ -1,6 +1,6 @@
 -- Whom an endpoint trusts, by what a program has put in.
 
-use Rattle.std.specs.Prelude.{ℕ, ◌==◌, ◌&&◌, Bool, List}
+use Rattle.std.specs.Prelude.{ℕ, ◌==◌, ◌&&◌, Bool, List, None}
 use Rattle.std.specs.Borrow.{Bor}
 use Rattle.std.specs.List.{list_any}
 use Rattle.std.specs.Str.{bytes_eq}
@@ -27,4 +27,5 @@ abbrev pub trust_policy : List (Bor (List ℕ)) → List UserInput → Decisions
 trust_policy keys users = record {
   host_key = λ algorithm blob. is_trusted keys blob;
   user = λ number user service proof. accepts users user proof;
+  signature = λ number algorithm blob input. None;
 }

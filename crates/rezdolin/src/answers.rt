@@ -65,6 +65,9 @@ pub const ASKS_HOST_KEY: u32 = 0;
 /// A question of a server: whether a request is successful, or whether the key of a query would do.
 pub const ASKS_USER: u32 = 1;
 
+/// A question for a signature by a key that the suite doesn't hold. No endpoint asks it whose parts were judged.
+pub(crate) const ASKS_SIGNATURE: u32 = 2;
+
 /// What a client or a server answers.
 #[repr(C)]
 #[derive(Clone, Copy, Debug)]

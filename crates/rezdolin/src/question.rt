@@ -2,15 +2,15 @@
 
 ghost use Rattle.std.specs.Prelude.{◌≡◌, ◌++◌, IfOk, OnOk};
 ghost use Rattle.sshcore.specs.EndpointPartsView.{proof_data};
-ghost use Rattle.sshcore.specs.Questions.{HostKeyQuestion, UserQuestion};
+ghost use Rattle.sshcore.specs.Questions.{HostKeyQuestion, SignatureQuestion, UserQuestion};
 ghost use Rattle.sshcore.specs.QuestionsView.{question_data};
 ghost use Rattle.sshwire.specs.Types.{uint32};
 ghost use Rattle.rezdolin.specs.Asks.{method_of, proof_fields, question_bytes};
 ghost use Rattle.rezdolin.specs.Records.{strings};
 
-use crate::answers::{ASKS_HOST_KEY, ASKS_USER};
+use crate::answers::{ASKS_HOST_KEY, ASKS_SIGNATURE, ASKS_USER};
 use crate::inputs::{METHOD_NONE, METHOD_PASSWORD, METHOD_PUBLICKEY};
-use crate::record::put_fields;
+use crate::record::{put_field, put_fields};
 use sshcore::{Proof, Question};
 use sshwire::{Memory, put_u32};
 use std::alloc::Global;
@@ -27,6 +27,12 @@ pub(crate) fn question_record(alloc: Global, question: &Question<'_>) -> Result<
             service,
             proof,
         } => user_record(alloc, *number, user, service, proof),
+        Question::Signature {
+            number,
+            algorithm,
+            blob,
+            input,
+        } => signature_record(alloc, *number, algorithm, blob, input),
     }
 }
 
@@ -58,6 +64,25 @@ fn user_record(
     let fields: [&[u8]; 4] = [&kind, &digits, user.as_bytes(), service.as_bytes()];
     put_fields(&fields, &mut out)?;
     put_proof(alloc, proof, &mut out)?;
+    Ok(out)
+}
+
+/// The record of a question for a signature, which no endpoint of these parts asks: the suite holds each of their keys.
+fn signature_record(
+    alloc: Global,
+    number: usize,
+    algorithm: &str,
+    blob: &[u8],
+    input: &[u8],
+) -> Result<Vec<u8>, Memory>
+    ensures { IfOk result (λ v. v.items ≡ question_bytes (SignatureQuestion number algorithm.now blob.now input.now)) }
+{
+    let _ = number;
+    let mut out = Vec::new(alloc);
+    let kind = [ASKS_SIGNATURE as u8];
+    let fields: [&[u8]; 7] = [&kind, &[], &[], &[], &[], algorithm.as_bytes(), blob];
+    put_fields(&fields, &mut out)?;
+    put_field(input, &mut out)?;
     Ok(out)
 }
 

@@ -7,6 +7,8 @@ ghost use Rattle.rezdolin.specs.Trust.{is_trusted, accepts, proves, trust_policy
 use crate::inputs::{METHOD_NONE, METHOD_PASSWORD, METHOD_PUBLICKEY, UserInput};
 use sshcore::{Decisions, Proof};
 use sshsuite::is_same_secret;
+use sshwire::Memory;
+use std::alloc::Global;
 
 /// The host keys that are trusted, and who is accepted by what.
 ///
@@ -28,6 +30,17 @@ impl Decisions for Trust<'_> {
 
     fn user(&self, _request_number: u32, user: &str, _service: &str, proof: &Proof<'_>) -> bool {
         accepts(self.users, user.as_bytes(), proof)
+    }
+
+    fn signature(
+        &self,
+        _alloc: Global,
+        _number: usize,
+        _algorithm: &str,
+        _blob: &[u8],
+        _input: &[u8],
+    ) -> Result<Option<Vec<u8>>, Memory> {
+        Ok(None)
     }
 }
 

@@ -30,16 +30,19 @@ proves trust NoProof = false
 proves trust (PasswordProof password) = is_own (option_map (λ v. v.items) trust.password) password
 proves trust (KeyProof algorithm blob) = is_trusted trust blob
 
--- a host key is trusted that is one of the keys, and isn't revoked; one user is accepted, by the password or by one of the keys
+-- a host key is trusted that is one of the keys, and isn't revoked; one user is accepted, by the password or by one of the keys; no
+-- signature is made
 abbrev pub trust_policy : Trust → DecisionsData
 trust_policy trust = record {
   host_key = λ algorithm blob. is_trusted trust blob;
   user = λ number user service proof. bytes_eq (string_bytes trust.user) user && proves trust proof;
+  signature = λ number algorithm blob input. None;
 }
 
--- any host key will do, and no user is accepted
+-- any host key will do, no user is accepted, and no signature is made
 abbrev pub any_host_policy : {A : Type 0} → A → DecisionsData
 any_host_policy looking = record {
   host_key = λ algorithm blob. true;
   user = λ number user service proof. false;
+  signature = λ number algorithm blob input. None;
 }

@@ -1,5 +1,6 @@
 //! What the endpoints of a client and of a server are answered where they ask.
 
+use crate::agent_fault::AgentFault;
 use crate::authorized::tell_line;
 use crate::fault::Fault;
 use crate::parts::server_trust;
@@ -20,29 +21,89 @@ pub(crate) struct Answers<'a> {
     pub(crate) trust: &'a Trust,
 }
 
+/// An answer to a question.
+#[derive(Drop)]
+pub(crate) enum Answer {
+    /// Yes or no.
+    Decided(bool),
+    /// A signature, if one was made.
+    Signed(Option<Vec<u8>>),
+}
+
 impl Answers<'_> {
-    /// The answer to a question. Of a host key: by the file of host keys, and where that has no line of the host and doesn't
-    /// revoke this key, by a person. Of a request: by the server's files as they stand now; where one of them is refused, no.
-    pub(crate) fn answer(&self, rt: &HostRuntime, question: &Question<'_>) -> Result<bool, Fault> {
+    /// The answer to a question.
+    pub(crate) fn answer(
+        &self,
+        rt: &HostRuntime,
+        question: &Question<'_>,
+    ) -> Result<Answer, Fault> {
         match question {
-            Question::HostKey { blob, .. } if self.trust.leaves_open(blob) => {
-                trusts(rt, self.settings, blob)
-            }
             Question::HostKey { blob, .. } => {
-                let trusted = self.trust.decides(question);
-                if !trusted {
-                    self.tell_why(rt, blob)?;
-                }
-                Ok(trusted)
+                let trusted = self.trusts_host(rt, question, blob)?;
+                Ok(Answer::Decided(trusted))
             }
-            Question::User { .. } => match server_trust(rt, self.settings) {
-                Ok(trust) => Ok(trust.decides(question)),
-                Err(Fault::Memory) => Err(Fault::Memory),
-                Err(fault) => {
-                    report::refused(rt, &fault);
-                    Ok(false)
-                }
-            },
+            Question::User { .. } => Ok(Answer::Decided(self.accepts_user(rt, question)?)),
+            Question::Signature {
+                algorithm,
+                blob,
+                input,
+                ..
+            } => Ok(Answer::Signed(self.signature(rt, algorithm, blob, input)?)),
+        }
+    }
+
+    /// Whether a host key is trusted: by the file of host keys, and where that has no line of the host and doesn't revoke this key,
+    /// by a person.
+    fn trusts_host(
+        &self,
+        rt: &HostRuntime,
+        question: &Question<'_>,
+        blob: &[u8],
+    ) -> Result<bool, Fault> {
+        if self.trust.leaves_open(blob) {
+            return trusts(rt, self.settings, blob);
+        }
+        let trusted = self.trust.decides(question);
+        if !trusted {
+            self.tell_why(rt, blob)?;
+        }
+        Ok(trusted)
+    }
+
+    /// Whether a request is accepted: by the server's files as they stand now; where one of them is refused, no.
+    fn accepts_user(&self, rt: &HostRuntime, question: &Question<'_>) -> Result<bool, Fault> {
+        match server_trust(rt, self.settings) {
+            Ok(trust) => Ok(trust.decides(question)),
+            Err(Fault::Memory) => Err(Fault::Memory),
+            Err(fault) => {
+                report::refused(rt, &fault);
+                Ok(false)
+            }
+        }
+    }
+
+    /// The agent's signature by the key of this blob. Where the agent makes none, that is told.
+    fn signature(
+        &self,
+        rt: &HostRuntime,
+        algorithm: &str,
+        blob: &[u8],
+        input: &[u8],
+    ) -> Result<Option<Vec<u8>>, Fault> {
+        let Some(agent) = self.settings.agent else {
+            return Ok(None);
+        };
+        match agent.sign(rt, algorithm, blob, input) {
+            Ok(signature) => Ok(Some(signature)),
+            Err(AgentFault::Memory) => Err(Fault::Memory),
+            Err(fault) => {
+                let hash = hash_of(rt.alloc(), blob)?;
+                let text = format!(in rt.alloc();
+                    "the agent made no {algorithm} signature by the key SHA256:{hash}: {fault}"
+                )?;
+                report::tell(rt, &text);
+                Ok(None)
+            }
         }
     }
 }
@@ -73,13 +134,19 @@ const TYPED: usize = 6;
 /// before the question tells them.
 fn trusts(rt: &HostRuntime, settings: &Settings<'_>, blob: &[u8]) -> Result<bool, Fault> {
     let host = settings.host.unwrap_or("");
-    let mut hash = String::new(rt.alloc());
-    STANDARD_NO_PAD.encode_string(&Sha256::digest(blob), &mut hash)?;
+    let hash = hash_of(rt.alloc(), blob)?;
     let question = question_of(rt.alloc(), host, &hash)?;
     match hash.get(..TYPED) {
         Some(word) => Ok(is_confirmed(rt, &question, word)),
         None => Ok(false),
     }
+}
+
+/// A key's hash, as `ssh-keygen -l` prints it after `SHA256:`.
+fn hash_of(alloc: Global, blob: &[u8]) -> Result<String, Fault> {
+    let mut hash = String::new(alloc);
+    STANDARD_NO_PAD.encode_string(&Sha256::digest(blob), &mut hash)?;
+    Ok(hash)
 }
 
 /// The question whether a host key is trusted, which it names by its fingerprint, as `ssh-keygen -l` does.

@@ -150,6 +150,10 @@ pub(crate) enum KeyFault {
     Padding,
     /// Others may read it, or write to it.
     Readable,
+    /// Its public key is of another kind than its line says.
+    Contradicts,
+    /// Its line's public key can't be read.
+    Blob,
     /// It is none of these, and no private key.
     Form,
 }
@@ -169,6 +173,8 @@ impl KeyFault {
             KeyFault::Halves => "has a public key that isn't that of its private one",
             KeyFault::Padding => "has wrong padding, or bytes after its key",
             KeyFault::Readable => "may be read or written by others than its owner",
+            KeyFault::Contradicts => "has a public key of another kind than its line says",
+            KeyFault::Blob => "has a public key that can't be read",
             KeyFault::Form => "has no private key in OpenSSH's form",
         }
     }

@@ -1,6 +1,6 @@
 //! Files that the words name, read whole.
 
-use crate::fault::Fault;
+use crate::fault::{Fault, KeyFault};
 use std::fs;
 use std::io::ErrorKind;
 use std::os::unix::fs::PermissionsExt;
@@ -44,6 +44,23 @@ pub(crate) fn is_private(
     match fs::metadata(rt, path) {
         Ok(metadata) => Ok(metadata.permissions().mode() & OTHERS == 0),
         Err(_) => Err(Fault::File(option)),
+    }
+}
+
+/// Refuses a file of the option that others than its owner may read or write, and by this fault one that isn't there, or is a directory.
+pub(crate) fn check_private(
+    rt: &HostRuntime,
+    option: &'static str,
+    path: &str,
+    otherwise: Fault,
+) -> Result<(), Fault> {
+    match fs::metadata(rt, path) {
+        Ok(metadata) if metadata.is_dir() => Err(otherwise),
+        Ok(metadata) if metadata.permissions().mode() & OTHERS != 0 => {
+            Err(Fault::Key(option, KeyFault::Readable))
+        }
+        Ok(_) => Ok(()),
+        Err(_) => Err(otherwise),
     }
 }
 

@@ -4,7 +4,7 @@ ghost use Rattle.std.specs.Prelude.{◌≡◌, IfOk, option_map};
 ghost use Rattle.sshauth.specs.Spelled.{spelled};
 
 use crate::fault::{Fault, KeyFault};
-use crate::files::{bytes_of, is_private, text_in};
+use crate::files::is_private;
 use crate::parts::ALGORITHM;
 use base64::DecodeAllocError;
 use base64::engine::general_purpose::STANDARD;
@@ -30,18 +30,18 @@ const SEED_LEN: usize = 32;
 /// The bytes of a block of a cipher, where there is none: the private section is filled up to it.
 const BLOCK: usize = 8;
 
-/// The private key of ssh-ed25519 in the file that the option names: the 32 bytes of RFC 8032 section 5.1.5.
+/// The private key of ssh-ed25519 in the text of the file that the option names, the 32 bytes of RFC 8032 section 5.1.5, or why
+/// there is none that can be used.
 pub(crate) fn private_key(
     rt: &HostRuntime,
     option: &'static str,
     path: &str,
-) -> Result<Vec<u8>, Fault> {
-    let bytes = bytes_of(rt, option, path)?;
-    let text = text_in(option, &bytes)?;
+    text: &str,
+) -> Result<Result<Vec<u8>, KeyFault>, Fault> {
     match key_in(rt.alloc(), text)? {
-        Ok(key) if is_private(rt, option, path)? => Ok(key),
-        Ok(_) => Err(Fault::Key(option, KeyFault::Readable)),
-        Err(fault) => Err(Fault::Key(option, fault)),
+        Ok(key) if is_private(rt, option, path)? => Ok(Ok(key)),
+        Ok(_) => Ok(Err(KeyFault::Readable)),
+        Err(fault) => Ok(Err(fault)),
     }
 }
 

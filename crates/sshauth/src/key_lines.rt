@@ -166,7 +166,7 @@ fn front_of(kind: &[u8]) -> Option<&'static [u8]>
 
 /// The first word of a text, and what stands after it. No word is an empty one.
 #[tactic(auto, unfolding(crate::specs::KeyLines::first_word, crate::specs::KeyLines::after_word))]
-fn cut_word(text: &[u8]) -> (&[u8], &[u8])
+pub(crate) fn cut_word(text: &[u8]) -> (&[u8], &[u8])
     ensures word { result.0.now ≡ first_word text.now }
     ensures after { result.1.now ≡ after_word text.now }
 {

@@ -2,6 +2,9 @@
 //! are deployed, or a client that only looks at a server. What it tells of itself goes to standard error. docs/SSHAUTH.md has its words.
 #![tactic(auto)]
 
+mod agent;
+mod agent_fault;
+mod agent_messages;
 mod answers;
 mod authorized;
 mod channel;
@@ -18,6 +21,7 @@ mod host_names;
 mod identity;
 mod key_lines;
 mod notices;
+mod own_key;
 mod parts;
 mod probe;
 mod refused;

@@ -1,7 +1,7 @@
 //! What the peer tells people, kept as text until it is told.
 
 use sshcore::{Decisions, Listener, Notice, Proof};
-use sshwire::NameList;
+use sshwire::{Memory, NameList};
 use std::alloc::{AllocError, Global};
 use std::cell::RefCell;
 use std::fmt::Write;
@@ -72,6 +72,18 @@ impl<D: Decisions> Decisions for Listening<'_, D> {
 
     fn user(&self, request_number: u32, user: &str, service: &str, proof: &Proof<'_>) -> bool {
         self.decisions.user(request_number, user, service, proof)
+    }
+
+    fn signature(
+        &self,
+        alloc: Global,
+        number: usize,
+        algorithm: &str,
+        blob: &[u8],
+        input: &[u8],
+    ) -> Result<Option<Vec<u8>>, Memory> {
+        self.decisions
+            .signature(alloc, number, algorithm, blob, input)
     }
 
     fn told(&self, notice: Notice<'_>) {

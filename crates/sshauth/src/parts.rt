@@ -4,7 +4,7 @@ use crate::authorized::{HostKeys, authorized_keys, known_hosts};
 use crate::fault::Fault;
 use crate::files::{bytes_of, first_line};
 use crate::host_keys::ALL_ALGORITHMS;
-use crate::identity::private_key;
+use crate::own_key::{OwnKey, own_key};
 use crate::settings::Settings;
 use crate::trust::Trust;
 use sshcore::{
@@ -36,7 +36,10 @@ pub(crate) fn client_config(
         rt.alloc(),
         ClientConfig::new(rt.alloc(), Box::into_inner(parts))?,
     )?;
-    judged(config.judge(&DeployedSuite))?;
+    judged(match settings.agent {
+        None => config.judge(&DeployedSuite),
+        Some(_) => config.judge_names(&DeployedSuite),
+    })?;
     Ok(config)
 }
 
@@ -50,11 +53,14 @@ pub(crate) fn server_config(
         rt.alloc(),
         ServerConfig::new(rt.alloc(), Box::into_inner(parts))?,
     )?;
-    judged(config.judge(&DeployedSuite))?;
+    judged(match settings.agent {
+        None => config.judge(&DeployedSuite),
+        Some(_) => config.judge_names(&DeployedSuite),
+    })?;
     Ok(config)
 }
 
-/// That the suite has all that a config names, and holds its private keys.
+/// That the suite has all that a config names, and holds its private keys, where there is no agent.
 fn judged(fit: Result<(), SuiteFault<'_>>) -> Result<(), Fault> {
     match fit {
         Ok(()) => Ok(()),
@@ -127,8 +133,7 @@ fn client_parts(
 fn plan_of(rt: &HostRuntime, settings: &Settings<'_>) -> Result<Vec<Attempt>, Fault> {
     let mut plan = Vec::new(rt.alloc());
     if let Some(path) = settings.identity {
-        let private_key = private_key(rt, "identity", path)?;
-        let credential = by_key(rt.alloc(), private_key)?;
+        let credential = by_key(own_key(rt, settings, "identity", path)?);
         plan.push(attempt_of(rt.alloc(), settings, credential)?)?;
     }
     if let Some(password) = password_of(rt, settings)? {
@@ -140,14 +145,13 @@ fn plan_of(rt: &HostRuntime, settings: &Settings<'_>) -> Result<Vec<Attempt>, Fa
     Ok(plan)
 }
 
-/// A private key by which a client proves its user, after the server was asked about it.
-fn by_key(alloc: Global, private_key: Vec<u8>) -> Result<Credential, Fault> {
-    let algorithm = String::from_str(alloc, ALGORITHM)?;
-    Ok(Credential::PublicKey {
-        algorithm,
-        private_key,
+/// A key by which a client proves its user, after the server was asked about it.
+fn by_key(key: OwnKey) -> Credential {
+    Credential::PublicKey {
+        algorithm: key.algorithm,
+        private_key: key.bytes,
         ask: true,
-    })
+    }
 }
 
 /// An attempt by this credential.
@@ -196,12 +200,11 @@ fn host_keys_of(rt: &HostRuntime, settings: &Settings<'_>) -> Result<Vec<HostKey
     let Some(path) = settings.host_key else {
         return Err(Fault::Words);
     };
-    let private_key = private_key(rt, "host-key", path)?;
-    let algorithm = String::from_str(rt.alloc(), ALGORITHM)?;
+    let key = own_key(rt, settings, "host-key", path)?;
     let mut keys = Vec::new(rt.alloc());
     keys.push(HostKey {
-        algorithm,
-        private_key,
+        algorithm: key.algorithm,
+        private_key: key.bytes,
     })?;
     Ok(keys)
 }

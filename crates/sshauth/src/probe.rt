@@ -14,7 +14,8 @@ use crate::settings::Settings;
 use crate::talk::{CHUNK, receive, send};
 use sshcore::{ClientConfig, Decisions, End, Endpoint, Proof};
 use sshsuite::DeployedSuite;
-use sshwire::OTHER_LINE_LIMIT;
+use sshwire::{Memory, OTHER_LINE_LIMIT};
+use std::alloc::Global;
 use std::fs::File;
 use std::io::Write;
 
@@ -40,6 +41,17 @@ impl Decisions for AnyHost {
 
     fn user(&self, _request_number: u32, _user: &str, _service: &str, _proof: &Proof<'_>) -> bool {
         false
+    }
+
+    fn signature(
+        &self,
+        _alloc: Global,
+        _number: usize,
+        _algorithm: &str,
+        _blob: &[u8],
+        _input: &[u8],
+    ) -> Result<Option<Vec<u8>>, Memory> {
+        Ok(None)
     }
 }
 

@@ -1,5 +1,6 @@
 //! What the words say.
 
+use crate::agent::Agent;
 use sshcore::PeerReading;
 
 /// Which side the program is.
@@ -28,14 +29,14 @@ pub(crate) struct Settings<'a> {
     pub(crate) role: Job,
     /// The user who is to be authenticated, or who may be.
     pub(crate) user: &'a str,
-    /// A client's private key, a file of OpenSSH's form.
+    /// A client's private key, a file of OpenSSH's form, or with an agent a public key's file.
     pub(crate) identity: Option<&'a str>,
     /// A file whose first line is the password.
     pub(crate) password_file: Option<&'a str>,
     /// A client's file of host keys that are trusted, and the name by which they stand there, which a probe has too.
     pub(crate) known_hosts: Option<&'a str>,
     pub(crate) host: Option<&'a str>,
-    /// A server's private host key, and the file of the keys by which the user is accepted.
+    /// A server's host key, such a file too, and the file of the keys by which the user is accepted.
     pub(crate) host_key: Option<&'a str>,
     pub(crate) authorized_keys: Option<&'a str>,
     /// A file whose bytes a server sends as BANNER.
@@ -59,4 +60,6 @@ pub(crate) struct Settings<'a> {
     pub(crate) exec: Option<&'a str>,
     /// A file to which a probe writes what it finds.
     pub(crate) report: Option<&'a str>,
+    /// Who signs by keys whose private ones this program doesn't have.
+    pub(crate) agent: Option<Agent<'a>>,
 }

@@ -1,6 +1,6 @@
 //! An endpoint over standard input and output, which asks and is answered.
 
-use crate::answers::Answers;
+use crate::answers::{Answer, Answers};
 use crate::fault::Fault;
 use crate::host_keys::algorithms_of;
 use crate::notices::Notices;
@@ -9,6 +9,7 @@ use crate::settings::Settings;
 use crate::{command, greeter, report};
 use sshcore::{AskingEndpoint, ClientConfig, End, Fed, ServerConfig, Session};
 use sshsuite::DeployedSuite;
+use sshwire::Memory;
 use std::io::{Read, Write};
 
 /// How many bytes are read at once.
@@ -25,6 +26,7 @@ const FAILED: u8 = 1;
 
 /// A client, and what it asks for after SUCCESS. Answers the exit status: that of its command, where it has one.
 pub(crate) fn client(rt: &HostRuntime, settings: &Settings<'_>) -> Result<u8, Fault> {
+    check_agent(rt, settings)?;
     let trust = &client_trust(rt, settings)?;
     let config = client_config(rt, settings, algorithms_of(&trust.keys))?;
     match client_session(rt, &config, Answers { settings, trust })? {
@@ -35,6 +37,7 @@ pub(crate) fn client(rt: &HostRuntime, settings: &Settings<'_>) -> Result<u8, Fa
 
 /// A server, and what it answers after SUCCESS. Answers the exit status.
 pub(crate) fn server(rt: &HostRuntime, settings: &Settings<'_>) -> Result<u8, Fault> {
+    check_agent(rt, settings)?;
     let config = server_config(rt, settings)?;
     let trust = &server_trust(rt, settings)?;
     match server_session(rt, &config, Answers { settings, trust })? {
@@ -43,6 +46,14 @@ pub(crate) fn server(rt: &HostRuntime, settings: &Settings<'_>) -> Result<u8, Fa
             Ok(0)
         }
         None => Ok(FAILED),
+    }
+}
+
+/// Refuses files of an agent that can't be used, where there is an agent.
+fn check_agent(rt: &HostRuntime, settings: &Settings<'_>) -> Result<(), Fault> {
+    match settings.agent {
+        Some(agent) => agent.check(rt),
+        None => Ok(()),
     }
 }
 
@@ -134,7 +145,7 @@ fn carry(
         match endpoint.question() {
             Some(question) => {
                 let answer = answers.answer(rt, &question)?;
-                endpoint.answer(answer, out)?;
+                give_answer(endpoint, answer, out)?;
             }
             None => *after = more(rt, endpoint)?,
         }
@@ -145,6 +156,19 @@ fn carry(
         *after = Vec::from_slice(rt.alloc(), after.get(used..).unwrap_or(&[]))?;
     }
     Ok(())
+}
+
+/// Gives the endpoint an answer.
+fn give_answer(
+    endpoint: &mut SuiteEndpoint<'_>,
+    answer: Answer,
+    out: &mut Vec<u8>,
+) -> Result<(), Memory> {
+    match answer {
+        Answer::Decided(allowed) => endpoint.answer(allowed, out),
+        Answer::Signed(Some(signature)) => endpoint.answer_signature(Some(&signature), out),
+        Answer::Signed(None) => endpoint.answer_signature(None, out),
+    }
 }
 
 /// What comes next: nothing where the input has ended, which the endpoint is told.

@@ -2,12 +2,14 @@
 
 ghost use Rattle.std.specs.Prelude.{◌≡◌, option_map};
 ghost use Rattle.sshcore.specs.EndpointPartsView.{proof_data};
-ghost use Rattle.sshcore.specs.Questions.{decided};
+ghost use Rattle.sshcore.specs.Questions.{decided, is_yes};
 ghost use Rattle.sshcore.specs.QuestionsView.{question_data};
 ghost use Rattle.sshauth.specs.Trust.{has_key, is_own, is_trusted, leaves_open, proves, trust_policy};
 
 use sshcore::{Decisions, Proof, Question};
 use sshsuite::is_same_secret;
+use sshwire::Memory;
+use std::alloc::Global;
 
 /// The public keys that are trusted, of a host at a client and of the user at a server, but for those that a client's file
 /// revokes; the one user, and a password.
@@ -37,12 +39,23 @@ impl Decisions for Trust {
         let proves = proves(self, proof);
         is_user && proves
     }
+
+    fn signature(
+        &self,
+        _alloc: Global,
+        _number: usize,
+        _algorithm: &str,
+        _blob: &[u8],
+        _input: &[u8],
+    ) -> Result<Option<Vec<u8>>, Memory> {
+        Ok(None)
+    }
 }
 
 impl Trust {
-    /// What is answered, where no person is asked.
+    /// What is answered, where no person is asked. A signature is never made.
     pub(crate) fn decides(&self, question: &Question<'_>) -> bool
-        ensures { result ≡ decided (trust_policy self.now) (question_data question.now) }
+        ensures { result ≡ is_yes (decided (trust_policy self.now) (question_data question.now)) }
     {
         match question {
             Question::HostKey { algorithm, blob } => self.host_key(algorithm, blob),
@@ -52,6 +65,7 @@ impl Trust {
                 service,
                 proof,
             } => self.user(*number, user, service, proof),
+            Question::Signature { .. } => false,
         }
     }
 

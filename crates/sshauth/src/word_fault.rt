@@ -24,6 +24,11 @@ pub(crate) enum WordFault<'a> {
         job: Job,
         option: &'a str,
     },
+    /// The option needs this other one.
+    Alone {
+        option: &'a str,
+        other: &'a str,
+    },
     /// The option's value, or a name in it, is none of these.
     Other {
         option: &'a str,
@@ -53,6 +58,9 @@ impl fmt::Display for WordFault<'_> {
             WordFault::NoValue(word) => write!(f, "{word} has no value"),
             WordFault::Twice(option) => write!(f, "--{option} stands twice"),
             WordFault::Missing { job, option } => { write!(f, "a {} needs --{option}", job.name()) }
+            WordFault::Alone { option, other } => {
+                write!(f, "--{option} stands without --{other}")
+            }
             WordFault::Other { option, name, all } => {
                 write!(f, "--{option}: {name} isn't one of {all}")
             }

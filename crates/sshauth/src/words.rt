@@ -1,5 +1,6 @@
 //! The program's words.
 
+use crate::agent::{Agent, REQUESTS, RESPONSES};
 use crate::channel::COMMAND_LIMIT;
 use crate::settings::{Job, Settings};
 use crate::word_fault::WordFault;
@@ -31,6 +32,8 @@ const COMMON: &[&str] = &["user", "strict", "kex", "cipher", "mac"];
 const CLIENT: &[&str] = &[
     "password-file",
     "identity",
+    REQUESTS,
+    RESPONSES,
     "known-hosts",
     "host",
     "reading",
@@ -45,6 +48,8 @@ const PROBE: &[&str] = &["host", "report"];
 const SERVER: &[&str] = &[
     "password-file",
     "host-key",
+    REQUESTS,
+    RESPONSES,
     "authorized-keys",
     "banner",
     "methods",
@@ -199,6 +204,7 @@ fn settings_of<'a>(job: Job, given: &[Given<'a>]) -> Result<Settings<'a>, WordFa
         CIPHERS,
     )?;
     let exec = short("exec", value_of(given, "exec"))?;
+    let agent = agent_of(job, given)?;
     Ok(Settings {
         role: job,
         user: value_of(given, "user").unwrap_or("nobody"),
@@ -220,6 +226,7 @@ fn settings_of<'a>(job: Job, given: &[Given<'a>]) -> Result<Settings<'a>, WordFa
         mac: value_of(given, "mac").unwrap_or(MAC),
         exec,
         report: value_of(given, "report"),
+        agent,
     })
 }
 
@@ -236,6 +243,25 @@ fn needs<'a>(job: Job, given: &[Given<'a>]) -> Result<(), WordFault<'a>> {
         }
     }
     Ok(())
+}
+
+/// The agent, where both of its files are named. A client needs a key by which it signs, which an agent doesn't choose.
+fn agent_of<'a>(job: Job, given: &[Given<'a>]) -> Result<Option<Agent<'a>>, WordFault<'a>> {
+    let (option, other) = match (value_of(given, REQUESTS), value_of(given, RESPONSES)) {
+        (None, None) => return Ok(None),
+        (Some(_), None) => (REQUESTS, RESPONSES),
+        (None, Some(_)) => (RESPONSES, REQUESTS),
+        (Some(requests), Some(responses)) => {
+            if !matches!(job, Job::Client) || value_of(given, "identity").is_some() {
+                return Ok(Some(Agent {
+                    requests,
+                    responses,
+                }));
+            }
+            (REQUESTS, "identity")
+        }
+    };
+    Err(WordFault::Alone { option, other })
 }
 
 /// These names, where each of them is one that the suite has. It passes over methods that it doesn't know, and the peer

@@ -1,6 +1,6 @@
 //! Configs of the lab, and decisions, that are drawn.
 
-ghost use Rattle.std.specs.Prelude.{◌==◌, ◌&&◌, not};
+ghost use Rattle.std.specs.Prelude.{◌==◌, ◌&&◌, None, not};
 
 use crate::drawn::{below, byte, flag};
 use crate::fault::Fault;
@@ -11,6 +11,7 @@ use sshcore::{
     SideParts,
 };
 use sshsuites::{lab_client_parts, lab_server_parts};
+use sshwire::Memory;
 use std::alloc::Global;
 
 /// Decisions that are drawn: whether the host key is trusted, and which requests are accepted.
@@ -42,7 +43,7 @@ impl Whims {
 }
 
 impl Decisions for Whims {
-    ghost policy = { λ whims. record { host_key = λ _ _. whims.trusts; user = λ number _ _ _. whims.accepts && not (number == whims.denied) } };
+    ghost policy = { λ whims. record { host_key = λ _ _. whims.trusts; user = λ number _ _ _. whims.accepts && not (number == whims.denied); signature = λ _ _ _ _. None } };
 
     fn host_key(&self, _algorithm: &str, _blob: &[u8]) -> bool {
         self.trusts
@@ -50,6 +51,17 @@ impl Decisions for Whims {
 
     fn user(&self, request_number: u32, _user: &str, _service: &str, _proof: &Proof<'_>) -> bool {
         self.accepts && request_number != self.denied
+    }
+
+    fn signature(
+        &self,
+        _alloc: Global,
+        _number: usize,
+        _algorithm: &str,
+        _blob: &[u8],
+        _input: &[u8],
+    ) -> Result<Option<Vec<u8>>, Memory> {
+        Ok(None)
     }
 }
 

@@ -4,9 +4,9 @@ use Rattle.std.proofs.Common.{◌≡◌, ◌==◌, Bool, true, false, cond, List
 use Rattle.std.specs.Prelude.{⊤}
 use Rattle.std.specs.List.{AllByRecursion}
 use Rattle.std.proofs.lemmas.Bool.{eq-eqb, ne_eqb}
-use Rattle.sshcore.specs.AskedQuestions.{AnsweredData, ComesLater, GiveAll, IsAskedOnce}
+use Rattle.sshcore.specs.AskedQuestions.{AnsweredData, ComesLater, GiveAll, IsAskedOnce, IsTaken}
 use Rattle.sshcore.specs.EndpointParts.{DecisionsData}
-use Rattle.sshcore.specs.Questions.{HostKeyQuestion, QuestionData, UserQuestion, decided}
+use Rattle.sshcore.specs.Questions.{AnswerData, Decided, HostKeyQuestion, QuestionData, SignatureQuestion, UserQuestion, decided, found_in, is_yes, taken}
 
 -- each comes later than those in front
 abbrev pub Rises : List QuestionData → Type 0
@@ -44,35 +44,44 @@ asked_once (q ∷ later) r (b ∷ before) between after one other e = asked_once
 -- an answer to one of two questions is one to the other
 abbrev is_about : QuestionData → QuestionData → Bool
 is_about (HostKeyQuestion algorithm blob) (HostKeyQuestion other_algorithm other_blob) = true
-is_about (HostKeyQuestion algorithm blob) (UserQuestion other_number other_user other_service other_proof) = false
-is_about (UserQuestion number user service proof) (HostKeyQuestion other_algorithm other_blob) = false
 is_about (UserQuestion number user service proof) (UserQuestion other_number other_user other_service other_proof) = number == other_number
+is_about (SignatureQuestion number algorithm blob input) (SignatureQuestion other_number other_algorithm other_blob other_input) = number == other_number
+is_about one other = false
 
 about_same : (q : QuestionData) → is_about q q ≡ true
 about_same (HostKeyQuestion algorithm blob) = refl
 about_same (UserQuestion number user service proof) = eq-eqb number number refl
+about_same (SignatureQuestion number algorithm blob input) = eq-eqb number number refl
 
 about_later : (one other : QuestionData) → ComesLater one other → is_about other one ≡ false
 about_later (HostKeyQuestion algorithm blob) (HostKeyQuestion other_algorithm other_blob) none = absurd none
 about_later (HostKeyQuestion algorithm blob) (UserQuestion other_number other_user other_service other_proof) later = refl
+about_later (HostKeyQuestion algorithm blob) (SignatureQuestion other_number other_algorithm other_blob other_input) later = refl
 about_later (UserQuestion number user service proof) (HostKeyQuestion other_algorithm other_blob) later = refl
 about_later (UserQuestion number user service proof) (UserQuestion other_number other_user other_service other_proof) later =
     ne_eqb other_number number (λ e. omega (arith, e, later))
+about_later (UserQuestion number user service proof) (SignatureQuestion other_number other_algorithm other_blob other_input) later = refl
+about_later (SignatureQuestion number algorithm blob input) (HostKeyQuestion other_algorithm other_blob) later = refl
+about_later (SignatureQuestion number algorithm blob input) (UserQuestion other_number other_user other_service other_proof) later = refl
+about_later (SignatureQuestion number algorithm blob input) (SignatureQuestion other_number other_algorithm other_blob other_input) later =
+    ne_eqb other_number number (λ e. omega (arith, e, later))
 
 -- the first answer to it
-abbrev answer_to : List AnsweredData → QuestionData → Bool
-answer_to [] q = false
+abbrev answer_to : List AnsweredData → QuestionData → AnswerData
+answer_to [] q = Decided false
 answer_to (a ∷ later) q = cond (is_about q a.question) a.answer (answer_to later q)
 
 abbrev by_answers : List AnsweredData → DecisionsData
 by_answers answers = record {
-  host_key = λ algorithm blob. answer_to answers (HostKeyQuestion algorithm blob);
-  user = λ number user service proof. answer_to answers (UserQuestion number user service proof);
+  host_key = λ algorithm blob. is_yes (answer_to answers (HostKeyQuestion algorithm blob));
+  user = λ number user service proof. is_yes (answer_to answers (UserQuestion number user service proof));
+  signature = λ number algorithm blob input. found_in (answer_to answers (SignatureQuestion number algorithm blob input));
 }
 
-decided_so : (answers : List AnsweredData) (q : QuestionData) → decided (by_answers answers) q ≡ answer_to answers q
+decided_so : (answers : List AnsweredData) (q : QuestionData) → decided (by_answers answers) q ≡ taken q (answer_to answers q)
 decided_so answers (HostKeyQuestion algorithm blob) = refl
 decided_so answers (UserQuestion number user service proof) = refl
+decided_so answers (SignatureQuestion number algorithm blob input) = refl
 
 abbrev pub questions_of : List AnsweredData → List QuestionData
 questions_of answers = map (λ (a : AnsweredData). a.question) answers
@@ -87,9 +96,10 @@ found : (answers : List AnsweredData) → Rises (questions_of answers) → AllBy
 found [] r = tt
 found (a ∷ later) r = (rw (about_same a.question) refl, passed a later later r.0 (found later r.1))
 
-given : (answers part : List AnsweredData) → AllByRecursion (λ (b : AnsweredData). answer_to answers b.question ≡ b.answer) part → GiveAll (by_answers answers) part
-given answers [] all = tt
-given answers (b ∷ later) all = (decided_so answers b.question ∙ all.0, given answers later all.1)
+given : (answers part : List AnsweredData) → AllByRecursion (λ (b : AnsweredData). answer_to answers b.question ≡ b.answer) part → AllByRecursion IsTaken part
+    → GiveAll (by_answers answers) part
+given answers [] all kinds = tt
+given answers (b ∷ later) all kinds = (decided_so answers b.question ∙ (ap (taken b.question) all.0 ∙ kinds.0), given answers later all.1 kinds.1)
 
-pub some_decisions : (answers : List AnsweredData) → IsAskedOnce (map (λ (a : AnsweredData). a.question) answers) → (d : DecisionsData) × GiveAll d answers
-some_decisions answers once = (by_answers answers, given answers answers (found answers (rises (questions_of answers) once)))
+pub some_decisions : (answers : List AnsweredData) → IsAskedOnce (map (λ (a : AnsweredData). a.question) answers) → AllByRecursion IsTaken answers → (d : DecisionsData) × GiveAll d answers
+some_decisions answers once kinds = (by_answers answers, given answers answers (found answers (rises (questions_of answers) once)) kinds)

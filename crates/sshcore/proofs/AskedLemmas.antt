@@ -1,43 +1,45 @@
 -- What a packet asks, by what the code has found out.
 
-use Rattle.std.proofs.Common.{◌≡◌, ◌≢◌, ℕ, List, Bor, Option, None, Some, option_map, Result, Ok, Err, refl, sym, ap, ◌∙◌}
+use Rattle.std.proofs.Common.{◌≡◌, ℕ, false, List, Bor, Option, None, Some, option_map, Result, Ok, Err, refl, sym, ap, ◌∙◌}
 use Rattle.sshmsg.proofs.NumberLemmas.{kind_tells}
 use Rattle.sshmsg.specs.declared.fault.MsgFault.{MsgFault}
-use Rattle.sshmsg.specs.MessageData.{KexEcdhReply, KexdhReply, MessageData, MethodData, UserauthRequest}
+use Rattle.sshmsg.specs.MessageData.{KexEcdhInit, KexEcdhReply, KexdhInit, KexdhReply, MessageData, MethodData, ServiceAccept, UserauthFailure, UserauthPkOk, UserauthRequest}
 use Rattle.sshmsg.specs.Messages.{message_in}
 use Rattle.sshmsg.specs.Numbers.{kind, number_of}
 use Rattle.sshneg.specs.declared.side.Side.{Side}
-use Rattle.sshneg.specs.declared.side.Side.TheVariants.{Client}
+use Rattle.sshneg.specs.declared.side.Side.TheVariants.{Client, Server}
 use Rattle.sshpacket.specs.Suite.{SuiteData}
 use Rattle.sshcore.specs.declared.table.Line.{Line}
 use Rattle.sshcore.specs.declared.table.Line.TheVariants as line
 use Rattle.sshcore.specs.EndpointParts.{ConfigData}
 use Rattle.sshcore.specs.Known.{Known}
-use Rattle.sshcore.specs.Questions.{HostKeyQuestion, QuestionData, line_question, message_question, method_question, request_question}
+use Rattle.sshcore.specs.Questions.{HostKeyQuestion, QuestionData, init_question, line_question, may_ask, message_question, method_question, request_question}
 use Rattle.sshcore.proofs.RequestLemmas.{FindsService, had, missed}
 
 module _ (m : SuiteData) (role : Side) (party : ConfigData) (known : Known) where
-  -- only the answer of an exchange and requests ask
-  message_unasked : (c : MessageData) → number_of c ≢ 31 → number_of c ≢ 50 → message_question m role party known (Ok c) ≡ None
-  message_unasked (KexdhReply host_key f signature) reply request = absurd (reply refl)
-  message_unasked (KexEcdhReply host_key share signature) reply request = absurd (reply refl)
-  message_unasked (UserauthRequest user service method) reply request = absurd (request refl)
-  message_unasked _ reply request = refl
+  -- only messages of these numbers ask
+  message_unasked : (c : MessageData) → may_ask (number_of c) ≡ false → message_question m role party known (Ok c) ≡ None
+  message_unasked (KexdhInit e) off = absurd cc
+  message_unasked (KexEcdhInit share) off = absurd cc
+  message_unasked (KexdhReply host_key f signature) off = absurd cc
+  message_unasked (KexEcdhReply host_key share signature) off = absurd cc
+  message_unasked (ServiceAccept service) off = absurd cc
+  message_unasked (UserauthRequest user service method) off = absurd cc
+  message_unasked (UserauthFailure listed partial) off = absurd cc
+  message_unasked (UserauthPkOk algorithm key) off = absurd cc
+  message_unasked _ off = refl
 
-  read_unasked : (payload : List ℕ) (r : Result MessageData MsgFault) → message_in known.shares payload ≡ r → kind payload ≢ 31 → kind payload ≢ 50
-      → message_question m role party known r ≡ None
-  read_unasked payload (Ok c) e reply request =
-      let is : kind payload ≡ number_of c = kind_tells known.shares payload c e in
-      message_unasked c (λ q. reply (is ∙ q)) (λ q. request (is ∙ q))
-  read_unasked payload (Err f) e reply request = refl
+  read_unasked : (payload : List ℕ) (r : Result MessageData MsgFault) → message_in known.shares payload ≡ r → may_ask (kind payload) ≡ false → message_question m role party known r ≡ None
+  read_unasked payload (Ok c) e off = message_unasked c (sym (ap may_ask (kind_tells known.shares payload c e)) ∙ off)
+  read_unasked payload (Err f) e off = refl
 
-  pub line_unasked : (l : Line) (payload : List ℕ) → kind payload ≢ 31 → kind payload ≢ 50 → line_question m role party known l payload ≡ None
+  pub line_unasked : (l : Line) (payload : List ℕ) → may_ask (kind payload) ≡ false → line_question m role party known l payload ≡ None
   unfolding line_question
-  line_unasked line.Reads payload reply request = read_unasked payload (message_in known.shares payload) refl reply request
-  line_unasked line.Drops payload reply request = refl
-  line_unasked line.Deviates payload reply request = refl
-  line_unasked line.Unknown payload reply request = refl
-  line_unasked line.Unexpected payload reply request = refl
+  line_unasked line.Reads payload off = read_unasked payload (message_in known.shares payload) refl off
+  line_unasked line.Drops payload off = refl
+  line_unasked line.Deviates payload off = refl
+  line_unasked line.Unknown payload off = refl
+  line_unasked line.Unexpected payload off = refl
 
   -- only what is read asks
   pub line_off : (l : Line) (payload : List ℕ) → (l ≡ line.Reads → ⊥) → line_question m role party known l payload ≡ None
@@ -61,6 +63,14 @@ module _ (m : SuiteData) (role : Side) (party : ConfigData) (known : Known) wher
     pub kex_ecdh_asks : (host_key share signature : List ℕ) → c ≡ KexEcdhReply host_key share signature
         → ◌≡◌ {A = Option QuestionData} (Some (HostKeyQuestion known.algorithms.host_key host_key)) (message_question m role party known (Ok c))
     kex_ecdh_asks host_key share signature is = rw (is, client) refl
+
+  -- and a server for the signature of its exchange
+  module _ (c : MessageData) (server : role ≡ Server) where
+    pub kexdh_init_asks : (e : List ℕ) → c ≡ KexdhInit e → init_question m Server party known c ≡ message_question m role party known (Ok c)
+    kexdh_init_asks e is = ap (λ (x : MessageData). init_question m Server party known x) is ∙ sym (ap (λ (x : MessageData). message_question m role party known (Ok x)) is ∙ ap (λ (r : Side). init_question m r party known (KexdhInit e)) server)
+
+    pub kex_ecdh_init_asks : (share : List ℕ) → c ≡ KexEcdhInit share → init_question m Server party known c ≡ message_question m role party known (Ok c)
+    kex_ecdh_init_asks share is = ap (λ (x : MessageData). init_question m Server party known x) is ∙ sym (ap (λ (x : MessageData). message_question m role party known (Ok x)) is ∙ ap (λ (r : Side). init_question m r party known (KexEcdhInit share)) server)
 
 -- a request asks by whether the server has the service
 module _ (m : SuiteData) (party : ConfigData) (known : Known) (user service : List ℕ) (method : MethodData) (found : Option (Bor (List ℕ))) (e : FindsService party service found) where

@@ -1,17 +1,20 @@
 -- What payloads ask, and that it is asked once.
 
-use Rattle.std.proofs.Common.{◌≡◌, ℕ, ◌+◌, ◌<◌, ◌≤◌, Bool, true, false, cond, List, [], ◌∷◌, ◌++◌, Option, None, Some, Result, Ok, refl, sym, ap, ◌∙◌, subst, append_assoc, arith}
+use Rattle.std.proofs.Common.{◌≡◌, ℕ, ◌+◌, ◌-◌, ◌<◌, ◌≤◌, ◌==◌, Bool, true, false, cond, List, [], ◌∷◌, ◌++◌, Option, None, Some, Result, Ok, refl, sym, ap, ◌∙◌, subst, append_assoc, arith}
 use Rattle.std.specs.Prelude.{◌&&◌, codes, length, nat_le}
 use Rattle.std.specs.List.{AllByRecursion}
-use Rattle.std.proofs.lemmas.Bool.{eq-eqb, true≢false}
+use Rattle.std.specs.Str.{bytes_eq}
+use Rattle.std.proofs.lemmas.Bool.{and_parts, eq-eqb, true≢false}
 use Rattle.std.proofs.lemmas.List.{append-nil}
 use Rattle.sshwire.specs.declared.share_form.ShareForm.{ShareForm}
+use Rattle.sshwire.specs.declared.share_form.ShareForm.TheVariants.{Mpint}
+use Rattle.sshmsg.proofs.NumberLemmas.{reads_alike}
 use Rattle.sshmsg.specs.declared.fault.MsgFault.{MsgFault}
-use Rattle.sshmsg.specs.MessageData.{KexEcdhReply, KexInitData, KexdhReply, MessageData, MethodData, PublicKeyQuery, UserauthRequest}
+use Rattle.sshmsg.specs.MessageData.{KexEcdhInit, KexEcdhReply, KexInitData, KexdhInit, KexdhReply, MessageData, MethodData, PublicKeyQuery, ServiceAccept, UserauthFailure, UserauthPkOk, UserauthRequest}
 use Rattle.sshmsg.specs.Messages.{message_in}
 use Rattle.sshmsg.specs.Numbers.{kind, number_of}
 use Rattle.sshneg.specs.declared.side.Side.{Side}
-use Rattle.sshneg.specs.declared.side.Side.TheVariants.{Client}
+use Rattle.sshneg.specs.declared.side.Side.TheVariants.{Client, Server}
 use Rattle.sshneg.specs.ChoiceReadings.{is_in}
 use Rattle.sshpacket.specs.declared.limits.TheConstants.{BLOB_LIMIT}
 use Rattle.sshpacket.specs.Places.{EachPlace, flat_places}
@@ -22,13 +25,15 @@ use Rattle.sshcore.specs.declared.table.Line.{Line}
 use Rattle.sshcore.specs.declared.table.Line.TheVariants as line
 use Rattle.sshcore.specs.declared.table.Phase.TheVariants as phase
 use Rattle.sshcore.specs.AskedQuestions.{ComesLater, IsAskedOnce, asked, question_after, questions_at}
+use Rattle.sshcore.specs.Attempts.{answers_query, is_asked}
 use Rattle.sshcore.specs.Before.{count_kept, expects_guess, kept, stood, strict_at}
+use Rattle.sshcore.specs.ConfigParts.{AttemptData, ByKey, ByNothing, ByPassword, CredentialData}
 use Rattle.sshcore.specs.EndpointParts.{ConfigData, DecisionsData, KeyProof, ProofData, Setup, setup_with}
-use Rattle.sshcore.specs.Exchange.{host_key_by}
-use Rattle.sshcore.specs.Known.{Known, known_at, waits_at}
+use Rattle.sshcore.specs.Exchange.{answer_with, exchange_with, host_key_by}
+use Rattle.sshcore.specs.Known.{Known, known_at, left_at, waits_at}
 use Rattle.sshcore.specs.Phases.{leaving, phase_at, phase_by}
-use Rattle.sshcore.specs.Plan.{is_waiting}
-use Rattle.sshcore.specs.Questions.{HostKeyQuestion, QuestionData, UserQuestion, line_question, message_question, method_question, claim_question, query_question, question_at, request_question}
+use Rattle.sshcore.specs.Plan.{asks, confirmed, is_waiting, left_after_one, listed_by, listed_in, next_after, next_listed, unasked}
+use Rattle.sshcore.specs.Questions.{HostKeyQuestion, QuestionData, SignatureQuestion, UserQuestion, accept_question, attempt_question, confirmed_question, init_question, line_question, message_question, method_question, claim_question, query_question, question_at, request_question}
 use Rattle.sshcore.specs.Reached.{ReachedData}
 use Rattle.sshcore.specs.Replies.{line_at}
 use Rattle.sshcore.specs.Requests.{is_last_try}
@@ -36,10 +41,12 @@ use Rattle.sshcore.specs.Standing.{Sits}
 use Rattle.sshcore.specs.StateData.{StateData}
 use Rattle.sshcore.specs.Table.{line_by}
 use Rattle.sshcore.specs.Tries.{claimed_proof, is_supported}
+use Rattle.sshcore.specs.Work.{userauth}
 use Rattle.sshcore.proofs.AnsweredLemmas.{Rises, asked_once}
 use Rattle.sshcore.proofs.PhaseLemmas.{kept_free, stood_push, tied_phase}
-use Rattle.sshcore.proofs.PlanLemmas.{count_push}
-use Rattle.sshcore.proofs.ReadsLemmas.{IsAt, Reads, reads, reply_read, user_request_read}
+use Rattle.sshcore.proofs.PlanLemmas.{count_push, is_answered, kept_kind, left_answered, left_more, left_stays, unanswered_from}
+use Rattle.sshcore.proofs.ReadsLemmas.{IsAt, Reads, accept_read, confirmation_read, failure_read, init_read, reads, reply_read, user_request_read}
+use Rattle.sshcore.proofs.SignatureLemmas.{IsOfAttempt, IsOfExchange, attempt_asks, exchange_asks, listed_fewer}
 
 -- a payload begins with the number of its message
 abbrev pub Numbered : Type 0
@@ -49,11 +56,17 @@ Numbered = (form : ShareForm) (payload : List ℕ) (c : MessageData) → message
 abbrev IsNumbered : ℕ → QuestionData → Type 0
 IsNumbered n (HostKeyQuestion algorithm blob) = ⊥
 IsNumbered n (UserQuestion number user service proof) = number ≡ n
+IsNumbered n (SignatureQuestion number algorithm blob input) = ⊥
 
--- it is asked by a message of its number: a host key by 31, and the next request by 50
-data IsAsked (request n : ℕ) (q : QuestionData) : Type 0 where
-  ByReply : n ≡ 31 → (algorithm blob : List ℕ) → q ≡ HostKeyQuestion algorithm blob → IsAsked request n q
-  ByRequest : n ≡ 50 → IsNumbered request q → IsAsked request n q
+-- It is asked by a message of its number: a host key by 31, the next request by 50, the signature of an exchange by 30, and that of an
+-- attempt by 6, 51 or 60, which make it.
+data IsAsked (known : Known) (payload : List ℕ) (q : QuestionData) : Type 0 where
+  ByReply : kind payload ≡ 31 → (algorithm blob : List ℕ) → q ≡ HostKeyQuestion algorithm blob → IsAsked known payload q
+  ByRequest : kind payload ≡ 50 → IsNumbered known.request q → IsAsked known payload q
+  ByInit : kind payload ≡ 30 → IsOfExchange q → IsAsked known payload q
+  ByAccept : kind payload ≡ 6 → IsOfAttempt known.left q → IsAsked known payload q
+  ByFailure : kind payload ≡ 51 → IsOfAttempt (next_after (listed_in payload) known.left) q → IsAsked known payload q
+  ByConfirmation : kind payload ≡ 60 → is_waiting known.left ≡ true → IsOfAttempt (confirmed known.left) q → IsAsked known payload q
 
 -- a request
 numbered : (number : ℕ) (user service : List ℕ) (proof : ProofData) (q : QuestionData) → Some (UserQuestion number user service proof) ≡ Some q → IsNumbered number q
@@ -88,18 +101,68 @@ module _ (m : SuiteData) (role : Side) (party : ConfigData) where
       by true is = method_asks known user service method q is
       by false is = absurd cc
 
+  -- a share
+  share_asks : (known : Known) (c : MessageData) (q : QuestionData) → init_question m role party known c ≡ Some q → IsOfExchange q
+  unfolding init_question
+  share_asks known c q e =
+      exchange_asks m party known (exchange_with m role party known.algorithms known.version known.kexinit (Ok c)) (answer_with m role party known.algorithms (Ok c)) q e
+
+  -- where the service is accepted, and where the query was about the key
+  accepted_asks : (known : Known) (service : List ℕ) (q : QuestionData) → accept_question m known service ≡ Some q → IsOfAttempt known.left q
+  accepted_asks known service q e = by (bytes_eq service userauth) e
+    where
+      by : (b : Bool) → cond b (attempt_question m known.session known.left) None ≡ Some q → IsOfAttempt known.left q
+      by true is = attempt_asks m known.session known.left q is
+      by false is = absurd cc
+
+  asked_waits : (algorithm key : List ℕ) (left : List AttemptData) → answers_query m algorithm key left ≡ true → is_waiting left ≡ true
+  asked_waits algorithm key [] e = absurd cc
+  asked_waits algorithm key (a ∷ later) e = by a.proving e
+    where
+      by : (c : CredentialData) → is_asked m c algorithm key ≡ true → asks c ≡ true
+      by ByNothing is = absurd cc
+      by (ByPassword password) is = absurd cc
+      by (ByKey own secret ask) is = (and_parts _ _ is).0
+
+  confirmed_asks : (known : Known) (algorithm key : List ℕ) (q : QuestionData) → confirmed_question m known algorithm key ≡ Some q
+      → (is_waiting known.left ≡ true) × IsOfAttempt (confirmed known.left) q
+  confirmed_asks known algorithm key q e = by (answers_query m algorithm key known.left) refl e
+    where
+      by : (b : Bool) → answers_query m algorithm key known.left ≡ b → cond b (attempt_question m known.session (confirmed known.left)) None ≡ Some q
+          → (is_waiting known.left ≡ true) × IsOfAttempt (confirmed known.left) q
+      by true on is = (asked_waits algorithm key known.left on, attempt_asks m known.session (confirmed known.left) q is)
+      by false on is = absurd cc
+
   module _ (numbers : Numbered) (known : Known) (payload : List ℕ) where
-    message_asks : (r : Result MessageData MsgFault) (q : QuestionData) → message_in known.shares payload ≡ r → message_question m role party known r ≡ Some q → IsAsked known.request (kind payload) q
+    -- the methods that a FAILURE lists are those that it is read with
+    lists : (listed : List (List ℕ)) (partial : Bool) → message_in known.shares payload ≡ Ok (UserauthFailure listed partial) → kind payload ≡ 51 → listed_in payload ≡ listed
+    unfolding listed_in
+    lists listed partial e is = ap listed_by (reads_alike Mpint known.shares payload (λ q. omega (arith, q, is)) (λ q. omega (arith, q, is)) ∙ e)
+
+    failure_asks : (listed : List (List ℕ)) (partial : Bool) (q : QuestionData) → message_in known.shares payload ≡ Ok (UserauthFailure listed partial)
+        → attempt_question m known.session (next_after listed known.left) ≡ Some q → IsAsked known payload q
+    failure_asks listed partial q e is =
+        let number : kind payload ≡ 51 = numbers known.shares payload (UserauthFailure listed partial) e in
+        ByFailure number (subst (λ (l : List (List ℕ)). IsOfAttempt (next_after l known.left) q) (sym (lists listed partial e number)) (attempt_asks m known.session (next_after listed known.left) q is))
+
+    message_asks : (r : Result MessageData MsgFault) (q : QuestionData) → message_in known.shares payload ≡ r → message_question m role party known r ≡ Some q → IsAsked known payload q
     message_asks (Ok (KexdhReply key f signature)) q e is =
         ByReply (numbers known.shares payload (KexdhReply key f signature) e) known.algorithms.host_key (host_key_by m role party known.algorithms.host_key (Ok (KexdhReply key f signature))) cc
     message_asks (Ok (KexEcdhReply key share signature)) q e is =
         ByReply (numbers known.shares payload (KexEcdhReply key share signature) e) known.algorithms.host_key (host_key_by m role party known.algorithms.host_key (Ok (KexEcdhReply key share signature))) cc
+    message_asks (Ok (KexdhInit share)) q e is = ByInit (numbers known.shares payload (KexdhInit share) e) (share_asks known (KexdhInit share) q is)
+    message_asks (Ok (KexEcdhInit share)) q e is = ByInit (numbers known.shares payload (KexEcdhInit share) e) (share_asks known (KexEcdhInit share) q is)
+    message_asks (Ok (ServiceAccept service)) q e is = ByAccept (numbers known.shares payload (ServiceAccept service) e) (accepted_asks known service q is)
     message_asks (Ok (UserauthRequest user service method)) q e is =
         ByRequest (numbers known.shares payload (UserauthRequest user service method) e) (request_asks known user service method q is)
+    message_asks (Ok (UserauthFailure listed partial)) q e is = failure_asks listed partial q e is
+    message_asks (Ok (UserauthPkOk algorithm key)) q e is =
+        let two = confirmed_asks known algorithm key q is in
+        ByConfirmation (numbers known.shares payload (UserauthPkOk algorithm key) e) two.0 two.1
     message_asks _ q e is = absurd cc
 
     -- only what is read asks
-    line_asks : (l : Line) (q : QuestionData) → line_question m role party known l payload ≡ Some q → (l ≡ line.Reads) × IsAsked known.request (kind payload) q
+    line_asks : (l : Line) (q : QuestionData) → line_question m role party known l payload ≡ Some q → (l ≡ line.Reads) × IsAsked known payload q
     unfolding line_question
     line_asks line.Reads q e = (refl, message_asks (message_in known.shares payload) q refl e)
     line_asks _ q e = absurd cc
@@ -111,13 +174,105 @@ exchange_due true true false d e = absurd cc
 exchange_due true true true false e = absurd cc
 exchange_due true true true true e = absurd cc
 
+service_due : (a b c d : Bool) → phase_by a b c d ≡ phase.Service → d ≡ false
+service_due a b c false e = refl
+service_due false b c true e = absurd cc
+service_due true false c true e = absurd cc
+service_due true true false true e = absurd cc
+service_due true true true true e = absurd cc
+
+auth_due : (a b c d : Bool) → phase_by a b c d ≡ phase.Auth → d ≡ true
+auth_due a b c true e = refl
+auth_due false b c false e = absurd cc
+auth_due true false c false e = absurd cc
+auth_due true true false false e = absurd cc
+auth_due true true true false e = absurd cc
+
 leaving_reply : (role : Side) → role ≡ Client → leaving role phase.Exchange ≡ 31
 leaving_reply role e = ap (λ (r : Side). leaving r phase.Exchange) e
 
+leaving_init : (role : Side) → role ≡ Server → leaving role phase.Exchange ≡ 30
+leaving_init role e = ap (λ (r : Side). leaving r phase.Exchange) e
+
+leaving_accept : (role : Side) → role ≡ Client → leaving role phase.Service ≡ 6
+leaving_accept role e = ap (λ (r : Side). leaving r phase.Service) e
+
+-- How many attempts may still ask for their signatures: before the first is made those that are left, then those after it, and it too
+-- while its query waits for an answer.
+abbrev still_asked : Bool → List AttemptData → ℕ
+still_asked false left = length left
+still_asked true left = cond (is_waiting left) (length left) (length left - 1)
+
+still_most : (made : Bool) (left : List AttemptData) → still_asked made left ≤ length left
+still_most false left = omega arith
+still_most true left = by (is_waiting left)
+  where
+    by : (b : Bool) → cond b (length left) (length left - 1) ≤ length left
+    by true = omega arith
+    by false = omega arith
+
+still_least : (made : Bool) (left : List AttemptData) → length left - 1 ≤ still_asked made left
+still_least false left = omega arith
+still_least true left = by (is_waiting left)
+  where
+    by : (b : Bool) → length left - 1 ≤ cond b (length left) (length left - 1)
+    by true = omega arith
+    by false = omega arith
+
+waits_no_more : (left : List AttemptData) → is_waiting (confirmed left) ≡ false
+waits_no_more [] = refl
+waits_no_more (a ∷ later) = by a.proving
+  where
+    by : (c : CredentialData) → asks (unasked c) ≡ false
+    by ByNothing = refl
+    by (ByPassword password) = refl
+    by (ByKey algorithm secret ask) = refl
+
+length_confirmed : (left : List AttemptData) → length (confirmed left) ≡ length left
+length_confirmed [] = refl
+length_confirmed (a ∷ later) = refl
+
+after_fewer : (listed : List (List ℕ)) (left : List AttemptData) → length (next_after listed left) ≤ length left - 1
+unfolding next_listed
+after_fewer listed [] = omega arith
+after_fewer listed (a ∷ later) = let fewer : length (next_listed listed later) ≤ length later = listed_fewer listed later in omega (arith, fewer)
+
+-- with one payload more they aren't more
+module _ (left : List AttemptData) where
+  still_same : (made now : Bool) → (made ≡ true → now ≡ true) → still_asked now left ≤ still_asked made left
+  still_same false now on = still_most now left
+  still_same true true on = omega arith
+  still_same true false on = absurd (true≢false (sym (on refl)))
+
+  still_confirmed : (made now : Bool) → (made ≡ true → now ≡ true) → still_asked now (confirmed left) ≤ still_asked made left
+  still_confirmed false now on = let most = still_most now (confirmed left) in let same = length_confirmed left in omega (arith, most, same)
+  still_confirmed true true on =
+      let same = length_confirmed left in let least : length left - 1 ≤ still_asked true left = still_least true left in
+      let here : still_asked true (confirmed left) ≡ length (confirmed left) - 1 = rw (waits_no_more left) refl in
+      omega (arith, same, least, here)
+  still_confirmed true false on = absurd (true≢false (sym (on refl)))
+
+  still_falls : (payload : List ℕ) (made now : Bool) → (made ≡ true → now ≡ true) → still_asked now (left_after_one left payload) ≤ still_asked made left
+  still_falls payload made now on = by (kind payload == 60)
+    where
+      by : (b : Bool) → still_asked now (cond b (confirmed left) (next_after (listed_in payload) left)) ≤ still_asked made left
+      by true = still_confirmed made now on
+      by false =
+          let most : still_asked now (next_after (listed_in payload) left) ≤ length (next_after (listed_in payload) left) = still_most now (next_after (listed_in payload) left) in
+          let fewer : length (next_after (listed_in payload) left) ≤ length left - 1 = after_fewer (listed_in payload) left in
+          let least : length left - 1 ≤ still_asked made left = still_least made left in
+          omega (arith, most, fewer, least)
+
+-- After these payloads a signature may be asked for: at a server before the exchange, at a client of attempts that may still ask.
+abbrev MaySign : Side → ConfigData → Units → ℕ → Type 0
+MaySign Server party before number = stood Server party.offer (leaving Server phase.Exchange) before ≡ false
+MaySign Client party before number = number < still_asked (stood Client party.offer (leaving Client phase.Service) before) (left_at Client party before)
+
 -- after these payloads it may be asked: a host key before the exchange, and a request that has a greater number than those that stood
-abbrev MayAsk : Side → KexInitData → Units → QuestionData → Type 0
-MayAsk role own before (HostKeyQuestion algorithm blob) = stood role own (leaving role phase.Exchange) before ≡ false
-MayAsk role own before (UserQuestion number user service proof) = count_kept role own 50 before < number
+abbrev MayAsk : Side → ConfigData → Units → QuestionData → Type 0
+MayAsk role party before (HostKeyQuestion algorithm blob) = stood role party.offer (leaving role phase.Exchange) before ≡ false
+MayAsk role party before (UserQuestion number user service proof) = count_kept role party.offer 50 before < number
+MayAsk role party before (SignatureQuestion number algorithm blob input) = MaySign role party before number
 
 module _ (role : Side) (own : KexInitData) (before : Units) (payload : List ℕ) where
   off_before : stood role own (leaving role phase.Exchange) (before ++ payload ∷ []) ≡ false → stood role own (leaving role phase.Exchange) before ≡ false
@@ -127,6 +282,16 @@ module _ (role : Side) (own : KexInitData) (before : Units) (payload : List ℕ)
       by false e = refl
       by true e = absurd (true≢false (sym (stood_push role own before payload (leaving role phase.Exchange) ∙ rw e refl) ∙ none))
 
+  stood_still : (k : ℕ) → stood role own k before ≡ true → stood role own k (before ++ payload ∷ []) ≡ true
+  stood_still k on = stood_push role own before payload k ∙ rw on refl
+
+  stood_now : (k : ℕ) → kept role own k before payload ≡ true → stood role own k (before ++ payload ∷ []) ≡ true
+  stood_now k here = stood_push role own before payload k ∙ by (stood role own k before)
+    where
+      by : (b : Bool) → cond b true (kept role own k before payload) ≡ true
+      by true = refl
+      by false = here
+
   count_less : count_kept role own 50 before ≤ count_kept role own 50 (before ++ payload ∷ [])
   count_less = by (kept role own 50 before payload) refl
     where
@@ -134,39 +299,143 @@ module _ (role : Side) (own : KexInitData) (before : Units) (payload : List ℕ)
       by true e = let same : count_kept role own 50 (before ++ payload ∷ []) ≡ count_kept role own 50 before + 1 = count_push role own before payload 50 ∙ rw e refl in omega (arith, same)
       by false e = let same : count_kept role own 50 (before ++ payload ∷ []) ≡ count_kept role own 50 before = count_push role own before payload 50 ∙ rw e refl in omega (arith, same)
 
+module _ (party : ConfigData) (before : Units) (payload : List ℕ) where
+  signs_before : (role : Side) (number : ℕ) → MaySign role party (before ++ payload ∷ []) number → MaySign role party before number
+  signs_before Server number may = off_before Server party.offer before payload may
+  signs_before Client number may = by (is_answered Client party.offer before payload) refl
+    where
+      on : stood Client party.offer 6 before ≡ true → stood Client party.offer 6 (before ++ payload ∷ []) ≡ true
+      on = stood_still Client party.offer before payload 6
+
+      by : (b : Bool) → is_answered Client party.offer before payload ≡ b
+          → number < still_asked (stood Client party.offer 6 before) (left_at Client party before)
+      by true e =
+          let is : left_at Client party (before ++ payload ∷ []) ≡ left_after_one (left_at Client party before) payload = left_answered Client party before payload e in
+          let less : number < still_asked (stood Client party.offer 6 (before ++ payload ∷ [])) (left_after_one (left_at Client party before) payload) =
+          subst (λ (l : List AttemptData). number < still_asked (stood Client party.offer 6 (before ++ payload ∷ [])) l) is may in
+          let falls = still_falls (left_at Client party before) payload (stood Client party.offer 6 before) (stood Client party.offer 6 (before ++ payload ∷ [])) on in
+          omega (arith, less, falls)
+      by false e =
+          let is : left_at Client party (before ++ payload ∷ []) ≡ left_at Client party before = left_stays Client party before payload e in
+          let less : number < still_asked (stood Client party.offer 6 (before ++ payload ∷ [])) (left_at Client party before) =
+          subst (λ (l : List AttemptData). number < still_asked (stood Client party.offer 6 (before ++ payload ∷ [])) l) is may in
+          let same = still_same (left_at Client party before) (stood Client party.offer 6 before) (stood Client party.offer 6 (before ++ payload ∷ [])) on in
+          omega (arith, less, same)
+
   -- what may be asked after one more might before it
-  may_before : (q : QuestionData) → MayAsk role own (before ++ payload ∷ []) q → MayAsk role own before q
-  may_before (HostKeyQuestion algorithm blob) may = off_before may
-  may_before (UserQuestion number user service proof) may = omega (arith, count_less, may)
+  may_before : (role : Side) (q : QuestionData) → MayAsk role party (before ++ payload ∷ []) q → MayAsk role party before q
+  may_before role (HostKeyQuestion algorithm blob) may = off_before role party.offer before payload may
+  may_before role (UserQuestion number user service proof) may = omega (arith, count_less role party.offer before payload, may)
+  may_before role (SignatureQuestion number algorithm blob input) may = signs_before role number may
+
+-- a signature at a server, and at a client
+module _ (party : ConfigData) (before : Units) (number : ℕ) where
+  server_signs : (role : Side) → role ≡ Server → stood role party.offer (leaving role phase.Exchange) before ≡ false → MaySign role party before number
+  server_signs Server is off = off
+  server_signs Client is off = absurd cc
+
+  server_signed : (role : Side) → role ≡ Server → MaySign role party before number → stood role party.offer (leaving role phase.Exchange) before ≡ false
+  server_signed Server is may = may
+  server_signed Client is may = absurd cc
+
+  client_signs : (role : Side) → role ≡ Client → number < still_asked (stood role party.offer (leaving role phase.Service) before) (left_at role party before) → MaySign role party before number
+  client_signs Client is less = less
+  client_signs Server is less = absurd cc
+
+  client_signed : (role : Side) → role ≡ Client → MaySign role party before number → number < still_asked (stood role party.offer (leaving role phase.Service) before) (left_at role party before)
+  client_signed Client is may = may
+  client_signed Server is may = absurd cc
 
 module _ (numbers : Numbered) (setup : Setup) (version : List ℕ) where
   module _ (before : Units) (payload : List ℕ) where
     -- a payload that asks leaves what comes later
     abbrev Asks : QuestionData → Type 0
-    Asks q = MayAsk setup.role setup.config.offer before q × ((r : QuestionData) → MayAsk setup.role setup.config.offer (before ++ payload ∷ []) r → ComesLater q r)
+    Asks q = MayAsk setup.role setup.config before q × ((r : QuestionData) → MayAsk setup.role setup.config (before ++ payload ∷ []) r → ComesLater q r)
 
     place_reads : line_at setup.role setup.config before payload ≡ line.Reads → Reads setup.role (phase_at setup.role setup.config.offer before) (expects_guess setup.role setup.config.offer before) (kind payload)
     place_reads e =
         reads setup.role (phase_at setup.role setup.config.offer before) (strict_at setup.role setup.config before) (waits_at setup.role setup.config before) (kind payload)
         (expects_guess setup.role setup.config.offer before) e
 
+    -- the exchange message, after which none of its kind asks
+    exchange_off : phase_at setup.role setup.config.offer before ≡ phase.Exchange → stood setup.role setup.config.offer (leaving setup.role phase.Exchange) before ≡ false
+    exchange_off at = exchange_due _ _ _ _ at
+
+    stands_now : (k : ℕ) → expects_guess setup.role setup.config.offer before ≡ false → kind payload ≡ k → stood setup.role setup.config.offer k (before ++ payload ∷ []) ≡ true
+    stands_now k none is = stood_now setup.role setup.config.offer before payload k (kept_free setup.role setup.config.offer before payload k none ∙ eq-eqb (kind payload) k is)
+
     host_asks : (algorithm blob : List ℕ) → IsAt setup.role Client (phase_at setup.role setup.config.offer before) phase.Exchange (expects_guess setup.role setup.config.offer before) → kind payload ≡ 31
         → Asks (HostKeyQuestion algorithm blob)
-    host_asks algorithm blob a is = (off, later)
+    host_asks algorithm blob a is = (exchange_off a.phase_is, later)
       where
-        off : stood setup.role setup.config.offer (leaving setup.role phase.Exchange) before ≡ false
-        off = exchange_due _ _ _ _ a.phase_is
-
-        here : kept setup.role setup.config.offer (leaving setup.role phase.Exchange) before payload ≡ true
-        here = kept_free setup.role setup.config.offer before payload (leaving setup.role phase.Exchange) a.none_due
-            ∙ eq-eqb (kind payload) (leaving setup.role phase.Exchange) (is ∙ sym (leaving_reply setup.role a.side_is))
-
         on : stood setup.role setup.config.offer (leaving setup.role phase.Exchange) (before ++ payload ∷ []) ≡ true
-        on = stood_push setup.role setup.config.offer before payload (leaving setup.role phase.Exchange) ∙ rw (off, here) refl
+        on = stands_now (leaving setup.role phase.Exchange) a.none_due (is ∙ sym (leaving_reply setup.role a.side_is))
 
-        later : (r : QuestionData) → MayAsk setup.role setup.config.offer (before ++ payload ∷ []) r → ComesLater (HostKeyQuestion algorithm blob) r
+        later : (r : QuestionData) → MayAsk setup.role setup.config (before ++ payload ∷ []) r → ComesLater (HostKeyQuestion algorithm blob) r
         later (HostKeyQuestion other_algorithm other_blob) may = true≢false (sym on ∙ may)
         later (UserQuestion number user service proof) may = tt
+        later (SignatureQuestion number other_algorithm other_blob input) may = tt
+
+    init_asks : (q : QuestionData) → IsOfExchange q → IsAt setup.role Server (phase_at setup.role setup.config.offer before) phase.Exchange (expects_guess setup.role setup.config.offer before) → kind payload ≡ 30
+        → Asks q
+    init_asks q x a is = subst Asks (sym x.is) (server_signs setup.config before 0 setup.role a.side_is (exchange_off a.phase_is), later)
+      where
+        on : stood setup.role setup.config.offer (leaving setup.role phase.Exchange) (before ++ payload ∷ []) ≡ true
+        on = stands_now (leaving setup.role phase.Exchange) a.none_due (is ∙ sym (leaving_init setup.role a.side_is))
+
+        later : (r : QuestionData) → MayAsk setup.role setup.config (before ++ payload ∷ []) r → ComesLater (SignatureQuestion 0 x.algorithm x.blob x.input) r
+        later (HostKeyQuestion other_algorithm other_blob) may = tt
+        later (UserQuestion number user service proof) may = tt
+        later (SignatureQuestion number other_algorithm other_blob input) may =
+            absurd (true≢false (sym on ∙ server_signed setup.config (before ++ payload ∷ []) number setup.role a.side_is may))
+
+    -- an attempt that is made at this place, after which so many are left
+    attempt_made : (left : List AttemptData) (q : QuestionData) → setup.role ≡ Client → (p : IsOfAttempt left q) → left_at setup.role setup.config (before ++ payload ∷ []) ≡ left
+        → stood setup.role setup.config.offer (leaving setup.role phase.Service) (before ++ payload ∷ []) ≡ true
+        → p.number < still_asked (stood setup.role setup.config.offer (leaving setup.role phase.Service) before) (left_at setup.role setup.config before) → Asks q
+    attempt_made left q side p is on less = subst Asks (sym p.is) (client_signs setup.config before p.number setup.role side less, later)
+      where
+        bound : still_asked (stood setup.role setup.config.offer (leaving setup.role phase.Service) (before ++ payload ∷ [])) (left_at setup.role setup.config (before ++ payload ∷ [])) ≡ length left - 1
+        bound = rw (on, is, p.no_query) refl
+
+        later : (r : QuestionData) → MayAsk setup.role setup.config (before ++ payload ∷ []) r → ComesLater (SignatureQuestion p.number p.algorithm p.blob p.input) r
+        later (HostKeyQuestion other_algorithm other_blob) may = tt
+        later (UserQuestion number user service proof) may = tt
+        later (SignatureQuestion number other_algorithm other_blob input) may =
+            let lower = client_signed setup.config (before ++ payload ∷ []) number setup.role side may in
+            let counts : p.number + 1 ≡ length left = p.counts in
+            omega (arith, lower, bound, counts)
+
+    accept_asks : (q : QuestionData) → IsOfAttempt (left_at setup.role setup.config before) q
+        → IsAt setup.role Client (phase_at setup.role setup.config.offer before) phase.Service (expects_guess setup.role setup.config.offer before) → kind payload ≡ 6 → Asks q
+    accept_asks q p a is =
+        let off : stood setup.role setup.config.offer (leaving setup.role phase.Service) before ≡ false = service_due _ _ _ _ a.phase_is in
+        let none : is_answered setup.role setup.config.offer before payload ≡ false =
+        unanswered_from setup.role setup.config.offer before payload (kept_kind setup.role setup.config.offer before payload 6 51 (λ e. omega arith) is) (kept_kind setup.role setup.config.offer before payload 6 60 (λ e. omega arith) is) in
+        let bound : still_asked (stood setup.role setup.config.offer (leaving setup.role phase.Service) before) (left_at setup.role setup.config before) ≡ length (left_at setup.role setup.config before) = rw off refl in
+        let counts : p.number + 1 ≡ length (left_at setup.role setup.config before) = p.counts in
+        attempt_made (left_at setup.role setup.config before) q a.side_is p (left_stays setup.role setup.config before payload none)
+        (stands_now (leaving setup.role phase.Service) a.none_due (is ∙ sym (leaving_accept setup.role a.side_is))) (omega (arith, bound, counts))
+
+    failed_asks : (q : QuestionData) → IsOfAttempt (next_after (listed_in payload) (left_at setup.role setup.config before)) q
+        → IsAt setup.role Client (phase_at setup.role setup.config.offer before) phase.Auth (expects_guess setup.role setup.config.offer before) → kind payload ≡ 51 → Asks q
+    failed_asks q p a is =
+        let on : stood setup.role setup.config.offer (leaving setup.role phase.Service) before ≡ true = auth_due _ _ _ _ a.phase_is in
+        let least : length (left_at setup.role setup.config before) - 1 ≤ still_asked (stood setup.role setup.config.offer (leaving setup.role phase.Service) before) (left_at setup.role setup.config before) = still_least _ _ in
+        let fewer : length (next_after (listed_in payload) (left_at setup.role setup.config before)) ≤ length (left_at setup.role setup.config before) - 1 = after_fewer (listed_in payload) (left_at setup.role setup.config before) in
+        let counts : p.number + 1 ≡ length (next_after (listed_in payload) (left_at setup.role setup.config before)) = p.counts in
+        attempt_made (next_after (listed_in payload) (left_at setup.role setup.config before)) q a.side_is p (left_more setup.role setup.config before payload a.none_due ∙ rw is refl)
+        (stood_still setup.role setup.config.offer before payload (leaving setup.role phase.Service) on) (omega (arith, least, fewer, counts))
+
+    confirmation_asks : (q : QuestionData) → is_waiting (left_at setup.role setup.config before) ≡ true → IsOfAttempt (confirmed (left_at setup.role setup.config before)) q
+        → IsAt setup.role Client (phase_at setup.role setup.config.offer before) phase.Auth (expects_guess setup.role setup.config.offer before) → kind payload ≡ 60 → Asks q
+    confirmation_asks q waits p a is =
+        let on : stood setup.role setup.config.offer (leaving setup.role phase.Service) before ≡ true = auth_due _ _ _ _ a.phase_is in
+        let bound : still_asked (stood setup.role setup.config.offer (leaving setup.role phase.Service) before) (left_at setup.role setup.config before) ≡ length (left_at setup.role setup.config before) = rw (on, waits) refl in
+        let same : length (confirmed (left_at setup.role setup.config before)) ≡ length (left_at setup.role setup.config before) = length_confirmed (left_at setup.role setup.config before) in
+        let counts : p.number + 1 ≡ length (confirmed (left_at setup.role setup.config before)) = p.counts in
+        attempt_made (confirmed (left_at setup.role setup.config before)) q a.side_is p (left_more setup.role setup.config before payload a.none_due ∙ rw is refl)
+        (stood_still setup.role setup.config.offer before payload (leaving setup.role phase.Service) on) (omega (arith, bound, same, counts))
 
     user_asks : (number : ℕ) (user service : List ℕ) (proof : ProofData) → expects_guess setup.role setup.config.offer before ≡ false → kind payload ≡ 50
         → number ≡ count_kept setup.role setup.config.offer 50 before + 1 → Asks (UserQuestion number user service proof)
@@ -175,9 +444,10 @@ module _ (numbers : Numbered) (setup : Setup) (version : List ℕ) where
         more : count_kept setup.role setup.config.offer 50 (before ++ payload ∷ []) ≡ count_kept setup.role setup.config.offer 50 before + 1
         more = count_push setup.role setup.config.offer before payload 50 ∙ rw (kept_free setup.role setup.config.offer before payload 50 none ∙ eq-eqb (kind payload) 50 is) refl
 
-        later : (r : QuestionData) → MayAsk setup.role setup.config.offer (before ++ payload ∷ []) r → ComesLater (UserQuestion number user service proof) r
+        later : (r : QuestionData) → MayAsk setup.role setup.config (before ++ payload ∷ []) r → ComesLater (UserQuestion number user service proof) r
         later (HostKeyQuestion algorithm blob) may = tt
         later (UserQuestion other_number other_user other_service other_proof) may = omega (arith, same, more, may)
+        later (SignatureQuestion other_number algorithm blob input) may = tt
 
     place_asks : (q : QuestionData) → question_after setup version before payload ≡ Some q → Asks q
     place_asks q e = by_message q (line_asks setup.suite setup.role setup.config numbers (known_at setup version before) payload (line_at setup.role setup.config before payload) q e).1
@@ -188,41 +458,46 @@ module _ (numbers : Numbered) (setup : Setup) (version : List ℕ) where
         has_number : (n : ℕ) → kind payload ≡ n → Reads setup.role (phase_at setup.role setup.config.offer before) (expects_guess setup.role setup.config.offer before) n
         has_number n is = subst (Reads setup.role (phase_at setup.role setup.config.offer before) (expects_guess setup.role setup.config.offer before)) is has
 
-        by_message : (q : QuestionData) → IsAsked (count_kept setup.role setup.config.offer 50 before + 1) (kind payload) q → Asks q
+        by_message : (q : QuestionData) → IsAsked (known_at setup version before) payload q → Asks q
         by_message q (ByReply is algorithm blob same) =
             subst Asks (sym same) (host_asks algorithm blob (reply_read setup.role _ _ (has_number 31 is)) is)
         by_message (HostKeyQuestion algorithm blob) (ByRequest is number) = absurd number
         by_message (UserQuestion number user service proof) (ByRequest is same) =
             user_asks number user service proof (user_request_read setup.role _ _ (has_number 50 is)).none_due is same
+        by_message (SignatureQuestion number algorithm blob input) (ByRequest is same) = absurd same
+        by_message q (ByInit is x) = init_asks q x (init_read setup.role _ _ (has_number 30 is)) is
+        by_message q (ByAccept is p) = accept_asks q p (accept_read setup.role _ _ (has_number 6 is)) is
+        by_message q (ByFailure is p) = failed_asks q p (failure_read setup.role _ _ (has_number 51 is)) is
+        by_message q (ByConfirmation is waits p) = confirmation_asks q waits p (confirmation_read setup.role _ _ (has_number 60 is)) is
 
   -- the questions of payloads after these, each later than those in front
   abbrev place : Units → List ℕ → List QuestionData
   place before payload = asked (question_after setup version before payload)
 
-  all_before : (before : Units) (payload : List ℕ) (qs : List QuestionData) → AllByRecursion (MayAsk setup.role setup.config.offer (before ++ payload ∷ [])) qs → AllByRecursion (MayAsk setup.role setup.config.offer before) qs
+  all_before : (before : Units) (payload : List ℕ) (qs : List QuestionData) → AllByRecursion (MayAsk setup.role setup.config (before ++ payload ∷ [])) qs → AllByRecursion (MayAsk setup.role setup.config before) qs
   all_before before payload [] all = tt
-  all_before before payload (q ∷ qs) all = (may_before setup.role setup.config.offer before payload q all.0, all_before before payload qs all.1)
+  all_before before payload (q ∷ qs) all = (may_before setup.config before payload setup.role q all.0, all_before before payload qs all.1)
 
-  all_later : (before : Units) (q : QuestionData) → ((r : QuestionData) → MayAsk setup.role setup.config.offer before r → ComesLater q r) → (qs : List QuestionData)
-      → AllByRecursion (MayAsk setup.role setup.config.offer before) qs → AllByRecursion (ComesLater q) qs
+  all_later : (before : Units) (q : QuestionData) → ((r : QuestionData) → MayAsk setup.role setup.config before r → ComesLater q r) → (qs : List QuestionData)
+      → AllByRecursion (MayAsk setup.role setup.config before) qs → AllByRecursion (ComesLater q) qs
   all_later before q later [] all = tt
   all_later before q later (r ∷ qs) all = (later r all.0, all_later before q later qs all.1)
 
-  rise : (before us : Units) → AllByRecursion (MayAsk setup.role setup.config.offer before) (flat_places place before us) × Rises (flat_places place before us)
+  rise : (before us : Units) → AllByRecursion (MayAsk setup.role setup.config before) (flat_places place before us) × Rises (flat_places place before us)
   rise before [] = (tt, tt)
   rise before (u ∷ us) = by (question_after setup version before u) refl (rise (before ++ u ∷ []) us)
     where
       by : (o : Option QuestionData) → question_after setup version before u ≡ o
-          → AllByRecursion (MayAsk setup.role setup.config.offer (before ++ u ∷ [])) (flat_places place (before ++ u ∷ []) us) × Rises (flat_places place (before ++ u ∷ []) us)
-          → AllByRecursion (MayAsk setup.role setup.config.offer before) (asked o ++ flat_places place (before ++ u ∷ []) us) × Rises (asked o ++ flat_places place (before ++ u ∷ []) us)
+          → AllByRecursion (MayAsk setup.role setup.config (before ++ u ∷ [])) (flat_places place (before ++ u ∷ []) us) × Rises (flat_places place (before ++ u ∷ []) us)
+          → AllByRecursion (MayAsk setup.role setup.config before) (asked o ++ flat_places place (before ++ u ∷ []) us) × Rises (asked o ++ flat_places place (before ++ u ∷ []) us)
       by None e rest = (all_before before u _ rest.0, rest.1)
       by (Some q) e rest = let a : Asks before u q = place_asks before u q e in ((a.0, all_before before u _ rest.0), (all_later (before ++ u ∷ []) q a.1 _ rest.0, rest.1))
 
-  may_front : (before more : Units) (q : QuestionData) → MayAsk setup.role setup.config.offer (before ++ more) q → MayAsk setup.role setup.config.offer before q
-  may_front before [] q may = subst (λ (us : Units). MayAsk setup.role setup.config.offer us q) (append-nil before) may
+  may_front : (before more : Units) (q : QuestionData) → MayAsk setup.role setup.config (before ++ more) q → MayAsk setup.role setup.config before q
+  may_front before [] q may = subst (λ (us : Units). MayAsk setup.role setup.config us q) (append-nil before) may
   may_front before (u ∷ us) q may =
-      may_before setup.role setup.config.offer before u q
-      (may_front (before ++ u ∷ []) us q (subst (λ (l : Units). MayAsk setup.role setup.config.offer l q) (sym (append_assoc before (u ∷ []) us)) may))
+      may_before setup.config before u setup.role q
+      (may_front (before ++ u ∷ []) us q (subst (λ (l : Units). MayAsk setup.role setup.config l q) (sym (append_assoc before (u ∷ []) us)) may))
 
   pub once : (before : Units) → IsAskedOnce (questions_at setup version before)
   unfolding questions_at
@@ -266,7 +541,7 @@ module _ (m : SuiteData) (role : Side) (party : ConfigData) where
   unreached_method known r user service _ = refl
 
   unreached_message : (known : Known) (r : ReachedData) (x : Result MessageData MsgFault) → message_question m role party (record known { reached = r }) x ≡ message_question m role party known x
-  unfolding request_question
+  unfolding request_question init_question
   unreached_message known r (Ok (UserauthRequest user service method)) = rw (unreached_method known r user service method) refl
   unreached_message known r _ = refl
 

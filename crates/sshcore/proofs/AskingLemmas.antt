@@ -24,7 +24,7 @@ use Rattle.sshcore.specs.Exchanged.{HasForm}
 use Rattle.sshcore.specs.History.{BrokenOff}
 use Rattle.sshcore.specs.Inputs.{EndpointStands, Steps}
 use Rattle.sshcore.specs.Output.{sent_from}
-use Rattle.sshcore.specs.Questions.{HostKeyQuestion, QuestionData, UserQuestion, always, decided, decided_by, question_at}
+use Rattle.sshcore.specs.Questions.{AnswerData, Decided, HostKeyQuestion, QuestionData, SignatureQuestion, Signed, UserQuestion, always, decided, decided_by, question_at, taken, taken_by}
 use Rattle.sshcore.specs.StateData.{StateData, keys_due, state_data}
 use Rattle.sshcore.specs.Unread.{AnswerSteps, AskingStands, AskingSteps, IsAskingEndpoint, IsTurned, IsUnread, ReadsPacket, Turns, reads_with}
 use Rattle.sshcore.proofs.Below.{Below}
@@ -78,16 +78,20 @@ module _ (setup : Setup) (kept : StateData) (i : Input) (h s : List ℕ) where
   }
 
 -- the decisions that always answer so, and a packet that asks
-always_decides : (allowed : Bool) (q : QuestionData) → decided (always allowed) q ≡ allowed
-always_decides allowed (HostKeyQuestion algorithm blob) = refl
-always_decides allowed (UserQuestion number user service proof) = refl
+always_decides : (answer : AnswerData) (q : QuestionData) → decided (always answer) q ≡ taken q answer
+always_decides (Decided allowed) (HostKeyQuestion algorithm blob) = refl
+always_decides (Decided allowed) (UserQuestion number user service proof) = refl
+always_decides (Decided allowed) (SignatureQuestion number algorithm blob input) = refl
+always_decides (Signed found) (HostKeyQuestion algorithm blob) = refl
+always_decides (Signed found) (UserQuestion number user service proof) = refl
+always_decides (Signed found) (SignatureQuestion number algorithm blob input) = refl
 
 -- a packet that asks nothing is answered alike
-pub alike_unasked : (d : DecisionsData) (q : Option QuestionData) → q ≡ None → decided_by d q ≡ decided_by (always false) q
-alike_unasked d q e = ap (decided_by d) e ∙ sym (ap (decided_by (always false)) e)
+pub alike_unasked : (d : DecisionsData) (q : Option QuestionData) → q ≡ None → decided_by d q ≡ decided_by (always (Decided false)) q
+alike_unasked d q e = ap (decided_by d) e ∙ sym (ap (decided_by (always (Decided false))) e)
 
-alike_asked : (d : DecisionsData) (allowed : Bool) (q : Option QuestionData) (is : QuestionData) → q ≡ Some is → decided d is ≡ allowed → decided_by d q ≡ decided_by (always allowed) q
-alike_asked d allowed q is e agrees = ap (decided_by d) e ∙ agrees ∙ sym (always_decides allowed is) ∙ sym (ap (decided_by (always allowed)) e)
+alike_asked : (d : DecisionsData) (answer : AnswerData) (q : Option QuestionData) (is : QuestionData) → q ≡ Some is → decided d is ≡ taken is answer → decided_by d q ≡ decided_by (always answer) q
+alike_asked d answer q is e agrees = ap (decided_by d) e ∙ agrees ∙ sym (always_decides answer is) ∙ sym (ap (decided_by (always answer)) e)
 
 reads_as : (k : Option KeysData) (strict : Bool) (r : PacketReaderData) → reads_with k strict r ≡ reader_with k strict r
 reads_as None strict r = refl
@@ -109,21 +113,21 @@ module _ (below : Below) (streams : Streams) (m : SuiteData) (role : Side) (part
       (turns.reads ∙ reads_as (keys_due new.phase new.carried.pending) new.known.strict (packet_reader_data p))
 
 -- A packet that waited is answered.
-module _ (below : Below) (streams : Streams) (m : SuiteData) (role : Side) (party : ConfigData) (allowed : Bool) (w : WaitingData) (old new last : StateData) (before after : List ℕ) (is : old.end ≡ Open) where
+module _ (below : Below) (streams : Streams) (m : SuiteData) (role : Side) (party : ConfigData) (answer : AnswerData) (w : WaitingData) (old new last : StateData) (before after : List ℕ) (is : old.end ≡ Open) where
   answer_packets : (p q : PacketReader) → question_at m role party old w.payload ≡ Some w.question
-      → (HasForm m old → Brings (setup_with m (always allowed) role party) old new w.packet w.payload before after)
-      → Turns new last p q → AnswerSteps m role party allowed w (input.Packets p) old (input.Packets q) last before after
+      → (HasForm m old → Brings (setup_with m (always answer) role party) old new w.packet w.payload before after)
+      → Turns new last p q → AnswerSteps m role party (taken w.question answer) w (input.Packets p) old (input.Packets q) last before after
   answer_packets p q asks brings turns d agrees i taken r =
       let same : p ≡ r.after = cc in
       subst (λ (x : Input). Steps (setup_with m d role party) x old (input.Packets q) last taken before after) (sym r.was)
       (subst (λ (l : List ℕ). Steps (setup_with m d role party) (input.Packets r.before) old (input.Packets q) last l before after) (take-length taken)
-      (unit_steps below streams m role party (always allowed) old new last before after is r.before p q taken w.payload (length taken) w.packet (omega arith) r.reads r.number
+      (unit_steps below streams m role party (always answer) old new last before after is r.before p q taken w.payload (length taken) w.packet (omega arith) r.reads r.number
       (ap (λ (x : PacketReader). packet_reader_data x) same ∙ r.left) brings turns d
-      (alike_asked d allowed (question_at m role party old w.payload) w.question asks agrees)))
+      (alike_asked d answer (question_at m role party old w.payload) w.question asks agrees)))
 
   pub answer_steps : (j k : Input) → question_at m role party old w.payload ≡ Some w.question
-      → (HasForm m old → Brings (setup_with m (always allowed) role party) old new w.packet w.payload before after)
-      → IsTurned new last j k → AnswerSteps m role party allowed w j old k last before after
+      → (HasForm m old → Brings (setup_with m (always answer) role party) old new w.packet w.payload before after)
+      → IsTurned new last j k → AnswerSteps m role party (taken w.question answer) w j old k last before after
   answer_steps (input.Packets p) (input.Packets q) asks brings turned = answer_packets p q asks brings turned
   answer_steps (input.Packets p) (input.Lines q) asks brings turned = absurd turned
   answer_steps (input.Lines p) k asks brings turned = absurd turned
@@ -286,10 +290,10 @@ module _ {S : Type 0} (meaning : S → SuiteData) where
     asked_open e w is = ap (λ (x : EndData). asked_at x (Some w)) is
 
     -- a packet that waited is answered by a step that used its bytes
-    answered_by : (allowed : Bool) (w : WaitingData) (i j : Input) (x y : State) (before after : List ℕ) → end_data x.end ≡ Open
-        → (added : List ℕ) × (after ≡ before ++ added) × AnswerSteps (meaning suite) role party allowed w i (state_data x) j (state_data y) [] added
-        → Answered meaning allowed (asking i x (Some w)) (asking j y None) before after
-    answered_by allowed w i j x y before after is step = record {
+    answered_by : (answer : AnswerData) (w : WaitingData) (i j : Input) (x y : State) (before after : List ℕ) → end_data x.end ≡ Open
+        → (added : List ℕ) × (after ≡ before ++ added) × AnswerSteps (meaning suite) role party answer w i (state_data x) j (state_data y) [] added
+        → Answered meaning answer (asking i x (Some w)) (asking j y None) before after
+    answered_by answer w i j x y before after is step = record {
       added = step.0;
       appended = step.1;
       follows = λ d agrees h s a.
@@ -303,12 +307,14 @@ module _ {S : Type 0} (meaning : S → SuiteData) where
       same = record { same_role = refl; same_config = refl; same_suite = refl };
     }
 
-    pub answered_from : (allowed : Bool) (w : WaitingData) (u v : Option WaitingData) (i j : Input) (x y : State) (before after : List ℕ) → u ≡ Some w → v ≡ None → end_data x.end ≡ Open
-        → (added : List ℕ) × (after ≡ before ++ added) × AnswerSteps (meaning suite) role party allowed w i (state_data x) j (state_data y) [] added
-        → Answered meaning allowed (asking i x u) (asking j y v) before after
-    answered_from allowed w u v i j x y before after some none is step =
-        subst (λ (a : Option WaitingData). Answered meaning allowed (asking i x a) (asking j y v) before after) (sym some)
-        (subst (λ (b : Option WaitingData). Answered meaning allowed (asking i x (Some w)) (asking j y b) before after) (sym none) (answered_by allowed w i j x y before after is step))
+    pub answered_from : (answer : AnswerData) (w : WaitingData) (u v : Option WaitingData) (i j : Input) (x y : State) (before after : List ℕ) → u ≡ Some w → v ≡ None → end_data x.end ≡ Open
+        → (added : List ℕ) × (after ≡ before ++ added) × AnswerSteps (meaning suite) role party (taken w.question answer) w i (state_data x) j (state_data y) [] added
+        → Answered meaning (taken_by (asked_at (end_data x.end) u) answer) (asking i x u) (asking j y v) before after
+    answered_from answer w u v i j x y before after some none is step =
+        subst (λ (a : Option WaitingData). Answered meaning (taken_by (asked_at (end_data x.end) a) answer) (asking i x a) (asking j y v) before after) (sym some)
+        (subst (λ (b : Option WaitingData). Answered meaning (taken_by (asked_at (end_data x.end) (Some w)) answer) (asking i x (Some w)) (asking j y b) before after) (sym none)
+        (subst (λ (q : Option QuestionData). Answered meaning (taken_by q answer) (asking i x (Some w)) (asking j y None) before after) (sym (asked_open (end_data x.end) w is))
+        (answered_by (taken w.question answer) w i j x y before after is step)))
 
     -- what was sent for its owner, at an endpoint that stood open, is a call that ended it
     pub leaves_by : SentMore → (i : Input) (x y : State) (w : Option WaitingData) (reason : ℕ) (description before after : List ℕ) (strict : Bool) (next : KeysData)

@@ -1,6 +1,6 @@
 -- The attempts of a client's plan: which is made next, and that those that are left are accepted ones.
 
-use Rattle.std.proofs.Common.{◌≡◌, Bor, ℕ, suc, ◌+◌, ◌≤◌, Bool, true, false, cond, ltb, ◌-◌, ◌==◌, List, [], ◌∷◌, drop, take, length, map, Option, None, Some, inl, inr, refl, sym, ap, ◌∙◌, arith, if◌then◌else◌}
+use Rattle.std.proofs.Common.{◌≡◌, Bor, ℕ, suc, ◌+◌, ◌≤◌, Bool, true, false, cond, ltb, ◌-◌, ◌==◌, List, [], ◌∷◌, drop, take, length, map, Option, None, Some, inl, inr, refl, sym, ap, ◌∙◌, arith}
 use Rattle.std.specs.List.{AllByRecursion, position_or_len, slice_get}
 use Rattle.std.specs.Option.{option_copied}
 use Rattle.std.proofs.lemmas.Bool.{cases_Bool, ltb-false}
@@ -10,13 +10,11 @@ use Rattle.sshmsg.specs.Written.{written_message}
 use Rattle.sshneg.specs.ChoiceReadings.{is_in}
 use Rattle.sshpacket.specs.Suite.{SuiteData}
 use Rattle.sshcore.specs.declared.config_parts.Attempt as attempt_parts
-use Rattle.sshcore.specs.declared.end.Fault.TheVariants as fault
-use Rattle.sshmsg.specs.declared.numbers.TheConstants.{SSH_MSG_USERAUTH_PK_OK}
-use Rattle.sshcore.specs.Attempts.{attempt_reply, confirmed_by, is_asked, request_of, success_by}
+use Rattle.sshcore.specs.Attempts.{answers_query, is_asked, request_of, success_by}
 use Rattle.sshcore.specs.ConfigParts.{AttemptData, ByKey, ByNothing, ByPassword, CredentialData}
 use Rattle.sshcore.specs.ConfigRules.{IsAttempt}
 use Rattle.sshcore.specs.ConfigView.{attempt_data, credential_data}
-use Rattle.sshcore.specs.EndData.{fails, goes}
+use Rattle.sshcore.specs.EndpointParts.{DecisionsData}
 use Rattle.sshcore.specs.StateData.{left_of}
 use Rattle.sshcore.specs.Known.{Known}
 use Rattle.sshcore.specs.Plan.{after_query, confirmed, first_made, next_after, next_listed, proving_name, unasked}
@@ -110,10 +108,19 @@ first_some (x ∷ later) first a at is =
     let here : a.now ≡ x = cc in
     ap (λ (y : attempt_parts.Attempt). attempt_data y ∷ map attempt_data later) (sym here)
 
+-- the same where they are split
+pub split_none : (attempts : List attempt_parts.Attempt) → length attempts ≡ 0 → map attempt_data attempts ≡ []
+split_none [] e = refl
+split_none (a ∷ later) e = absurd cc
+
+pub split_some : (attempts : List attempt_parts.Attempt) (a : attempt_parts.Attempt) (later : List attempt_parts.Attempt) → attempts ≡ a ∷ later
+    → map attempt_data attempts ≡ attempt_data a ∷ map attempt_data later
+split_some attempts a later e = ap (map attempt_data) e
+
 -- a request is no NEWKEYS
-pub quiet_request : (m : SuiteData) (session : List ℕ) (a : AttemptData) → (kind (request_of m session a) == 21) ≡ false
+pub quiet_request : (m : SuiteData) (d : DecisionsData) (number : ℕ) (session : List ℕ) (a : AttemptData) → (kind (request_of m d number session a) == 21) ≡ false
 unfolding written_message
-quiet_request m session a = refl
+quiet_request m d number session a = refl
 
 -- what is left, of which the first attempt may be confirmed
 pub left_none : (b : Bool) (attempts : List AttemptData) → attempts ≡ [] → left_of b attempts ≡ []
@@ -135,22 +142,6 @@ pub left_success : (b : Bool) (known : Known) (attempts : List AttemptData) (a :
     → success_by known (a ∷ later) ≡ success_by known (left_of b attempts)
 left_success true known attempts a later e = rw e refl
 left_success false known attempts a later e = rw e refl
-
--- at PK_OK: none is left, the key isn't the one that was asked about, and it is
-module _ (m : SuiteData) (known : Known) (algorithm key : List ℕ) (b : Bool) (attempts : List AttemptData) where
-  pub none_asked : attempts ≡ [] → fails (fault.Unexpected SSH_MSG_USERAUTH_PK_OK) ≡ confirmed_by m known algorithm key (left_of b attempts)
-  none_asked e = ap (confirmed_by m known algorithm key) (sym (left_none b attempts e))
-
-  module _ (a : AttemptData) (later : List AttemptData) (e : attempts ≡ a ∷ later) where
-    pub other_asked : is_asked m (first_made b a).proving algorithm key ≡ false
-        → fails (fault.Unexpected SSH_MSG_USERAUTH_PK_OK) ≡ confirmed_by m known algorithm key (left_of b attempts)
-    other_asked off = let made : fails (fault.Unexpected SSH_MSG_USERAUTH_PK_OK) ≡ confirmed_by m known algorithm key (first_made b a ∷ later) = rw off refl in
-        made ∙ ap (confirmed_by m known algorithm key) (sym (left_some b attempts a later e))
-
-    pub this_asked : b ≡ false → is_asked m a.proving algorithm key ≡ true
-        → goes (request_of m known.session (after_query a) ∷ []) ≡ confirmed_by m known algorithm key (left_of b attempts)
-    this_asked none on = let made : goes (request_of m known.session (after_query a) ∷ []) ≡ confirmed_by m known algorithm key (a ∷ later) = rw on refl in
-        made ∙ ap (confirmed_by m known algorithm key) (sym e) ∙ rw none refl
 
 -- what is left once the query is confirmed, if it wasn't before
 pub left_confirmed : (b : Bool) (attempts : List AttemptData) → left_of true attempts ≡ confirmed (left_of b attempts)
@@ -180,11 +171,14 @@ pub asked_other : (m : SuiteData) (b : Bool) (a : AttemptData) (algorithm key : 
     → is_asked m (first_made b a).proving algorithm key ≡ false
 asked_other m b a algorithm key e off = rw e off
 
--- what an answer to a query comes to, by whether it is about the key that was asked about
-module _ (m : SuiteData) (known : Known) (algorithm key : List ℕ) where
-  pub asked_so : (b : Bool) (attempts : List AttemptData) (a : AttemptData) (later : List AttemptData) → attempts ≡ a ∷ later → b ≡ false → (asked : Bool) → asked ≡ is_asked m a.proving algorithm key
-      → (if asked then attempt_reply m known.session (confirmed (left_of b attempts)) else fails (fault.Unexpected SSH_MSG_USERAUTH_PK_OK)) ≡ confirmed_by m known algorithm key (left_of b attempts)
-  asked_so b attempts a later e none true on =
-      ap (λ (l : List AttemptData). attempt_reply m known.session (confirmed l)) (left_some b attempts a later e ∙ ap (λ (c : Bool). first_made c a ∷ later) none)
-      ∙ this_asked m known algorithm key b attempts a later e none (sym on)
-  asked_so b attempts a later e none false off = other_asked m known algorithm key b attempts a later e (asked_other m b a algorithm key none (sym off))
+-- whether a PK_OK is about the key that was asked about: where none is left, where the query was confirmed, and where it is asked
+module _ (m : SuiteData) (algorithm key : List ℕ) (b : Bool) (attempts : List AttemptData) where
+  pub none_asked : attempts ≡ [] → false ≡ answers_query m algorithm key (left_of b attempts)
+  none_asked e = ap (answers_query m algorithm key) (sym (left_none b attempts e))
+
+  module _ (a : AttemptData) (later : List AttemptData) (e : attempts ≡ a ∷ later) where
+    pub other_asked : b ≡ true → false ≡ answers_query m algorithm key (left_of b attempts)
+    other_asked on = sym (asked_off m b a algorithm key on) ∙ ap (answers_query m algorithm key) (sym (left_some b attempts a later e))
+
+    pub asked_so : b ≡ false → (asked : Bool) → asked ≡ is_asked m a.proving algorithm key → asked ≡ answers_query m algorithm key (left_of b attempts)
+    asked_so none asked is = is ∙ ap (answers_query m algorithm key) (sym e ∙ ap (λ (c : Bool). left_of c attempts) (sym none))

@@ -25,25 +25,26 @@ use Rattle.sshcore.specs.declared.table.Line.{Line}
 use Rattle.sshcore.specs.declared.table.Line.TheVariants as line
 use Rattle.sshcore.specs.declared.table.Phase.{Phase}
 use Rattle.sshcore.specs.declared.table.Phase.TheVariants as phase
-use Rattle.sshcore.specs.Attempts.{agreed_by, attempt_reply, confirmed_by, is_asked, request_of, success_by}
+use Rattle.sshcore.specs.Attempts.{agreed_by, answers_query, attempt_reply, pk_ok_reply, success_by}
 use Rattle.sshcore.specs.Authenticated.{AcceptsUser, IsAcceptedUser, IsAuthenticated, WasAccepted}
 use Rattle.sshcore.specs.Before.{count_kept, expects_guess, kept, stood, strict_at, strict_towards}
 use Rattle.sshcore.specs.ConfigParts.{AttemptData}
 use Rattle.sshcore.specs.Counting.{number_in}
 use Rattle.sshcore.specs.Directions.{payloads_in, version_in}
 use Rattle.sshcore.specs.EndData.{AgreedData, Authenticated, Closed, Disconnected, EndData, Failed, Open, Reply, by_owner, fails, goes}
-use Rattle.sshcore.specs.Exchange.{answer_with, choice_with, exchange_with}
+use Rattle.sshcore.specs.Exchange.{answer_with, choice_with, exchange_with, secret_of}
 use Rattle.sshcore.specs.Known.{Known, known_at, waits_at}
 use Rattle.sshcore.specs.EndpointParts.{ConfigData, DecisionsData, Setup}
 use Rattle.sshcore.specs.Phases.{leaving, past_newkeys, phase_at}
-use Rattle.sshcore.specs.Plan.{after_query, next_after}
+use Rattle.sshcore.specs.Plan.{confirmed, next_after}
 use Rattle.sshcore.specs.Replies.{Ends, end_at, ended, goes_on, line_reply, read_reply, refusal_reply}
 use Rattle.sshcore.specs.Reached.{ReachedData, Tried, are_reached, is_complete, nothing_reached, reached_after, reached_after_one}
 use Rattle.sshcore.specs.Requests.{completes, is_successful, request_reply}
 use Rattle.sshcore.specs.Tries.{is_successful_at, session_known, tried_at, tried_in, tried_place, tried_with}
 use Rattle.sshcore.specs.Standing.{Tied}
 use Rattle.sshcore.specs.Table.{line_by}
-use Rattle.sshcore.specs.Work.{answered_by, banner_by, chosen_reply, init_reply, kexinit_reply, reply_reply, signed_by, userauth, work}
+use Rattle.sshcore.specs.Signatures.{signature_by}
+use Rattle.sshcore.specs.Work.{answered_by, banner_by, chosen_reply, init_reply, kexinit_reply, reply_reply, signed_by, signed_reply, userauth, work}
 use Rattle.sshcore.proofs.IgnoredLimitLemmas.{by_allowance}
 use Rattle.sshcore.proofs.AnswerLemmas.{Elsewhere, IsAnswered, Last, More, Succeeds, answered}
 use Rattle.sshcore.proofs.Below.{Below}
@@ -95,11 +96,16 @@ module _ (setup : Setup) where
       early_cond (strict_towards setup.role setup.config.strict (Some peer) && not known.first) (fails (fault.Strict 20)) (chosen_reply setup.suite setup.role setup.config peer (choice_with setup.suite setup.role setup.config.offer (Some peer)))
       refl (early_chosen peer (choice_with setup.suite setup.role setup.config.offer (Some peer)))
 
-  early_answered : (known : Known) (x : ExchangeData) (r : Option ResponseData) → IsEarly (answered_by setup.suite setup.config known x r).end
-  early_answered known x None = refl
-  early_answered known x (Some answer) = refl
+  early_hashed : (known : Known) (x : ExchangeData) (found : Option (List ℕ)) → IsEarly (signed_reply setup.config known x found).end
+  early_hashed known x None = refl
+  early_hashed known x (Some signature) = refl
 
-  early_init : (known : Known) (c : MessageData) → IsEarly (init_reply setup.suite setup.role setup.config known c).end
+  early_answered : (known : Known) (x : ExchangeData) (r : Option ResponseData) → IsEarly (answered_by setup.suite setup.decisions setup.config known x r).end
+  early_answered known x None = refl
+  early_answered known x (Some answer) =
+      early_hashed known x (signature_by setup.suite setup.decisions 0 known.algorithms.host_key (secret_of setup.config.host_keys known.algorithms.host_key) (exchange_hash setup.suite known.algorithms.kex x))
+
+  early_init : (known : Known) (c : MessageData) → IsEarly (init_reply setup.suite setup.decisions setup.role setup.config known c).end
   unfolding init_reply
   early_init known c = early_answered known (exchange_with setup.suite setup.role setup.config known.algorithms known.version known.kexinit (Ok c)) (answer_with setup.suite setup.role setup.config known.algorithms (Ok c))
 
@@ -116,7 +122,7 @@ module _ (setup : Setup) where
       let answer = answer_with setup.suite setup.role setup.config known.algorithms (Ok c) in
       early_cond (setup.decisions.host_key known.algorithms.host_key x.host_key) (signed_by setup.suite known x signature answer) (fails fault.HostKey) (early_signed known x signature answer) refl
 
-  early_attempt : (session : List ℕ) (left : List AttemptData) → IsEarly (attempt_reply setup.suite session left).end
+  early_attempt : (session : List ℕ) (left : List AttemptData) → IsEarly (attempt_reply setup.suite setup.decisions session left).end
   early_attempt session [] = refl
   early_attempt session (a ∷ later) = refl
 
@@ -136,10 +142,10 @@ module _ (setup : Setup) where
   success_ends known [] e = Early refl
   success_ends known (a ∷ later) e = Succeeded a later refl e refl
 
-  early_confirmed : (known : Known) (algorithm key : List ℕ) (left : List AttemptData) → IsEarly (confirmed_by setup.suite known algorithm key left).end
-  early_confirmed known algorithm key [] = refl
-  early_confirmed known algorithm key (a ∷ later) =
-      early_cond (is_asked setup.suite a.proving algorithm key) (goes (request_of setup.suite known.session (after_query a) ∷ [])) (fails (fault.Unexpected 60)) refl refl
+  early_confirmed : (known : Known) (algorithm key : List ℕ) → IsEarly (pk_ok_reply setup.suite setup.decisions known algorithm key).end
+  early_confirmed known algorithm key =
+      early_cond (answers_query setup.suite algorithm key known.left) (attempt_reply setup.suite setup.decisions known.session (confirmed known.left)) (fails (fault.Unexpected 60))
+      (early_attempt known.session (confirmed known.left)) refl
 
   pub work_ends : (known : Known) (c : MessageData) → WorkEnds setup.suite setup.decisions setup.config known c (work setup known c).end
   unfolding work
@@ -152,11 +158,11 @@ module _ (setup : Setup) where
   work_ends known (ServiceRequest service) =
       Early (early_cond (bytes_eq service userauth) (goes (written_message (ServiceAccept userauth) ∷ banner_by setup.config.banner)) (fails fault.Service) refl refl)
   work_ends known (ServiceAccept service) =
-      Early (early_cond (bytes_eq service userauth) (attempt_reply setup.suite known.session known.left) (fails (fault.Unexpected 6)) (early_attempt known.session known.left) refl)
+      Early (early_cond (bytes_eq service userauth) (attempt_reply setup.suite setup.decisions known.session known.left) (fails (fault.Unexpected 6)) (early_attempt known.session known.left) refl)
   work_ends known (UserauthRequest user service method) = request_ends known user service method
   work_ends known (UserauthFailure listed partial) = Early (early_attempt known.session (next_after listed known.left))
   work_ends known UserauthSuccess = success_ends known known.left refl
-  work_ends known (UserauthPkOk algorithm key) = Early (early_confirmed known algorithm key known.left)
+  work_ends known (UserauthPkOk algorithm key) = Early (early_confirmed known algorithm key)
   work_ends known _ = Early refl
 
 -- what is agreed has the user and the service that it was made with

@@ -1,18 +1,18 @@
 -- Whatever a caller answered, some decisions give all its answers, and under them the endpoint stands as after what it was given.
 
-use Rattle.std.proofs.Common.{◌≡◌, ◌≢◌, ℕ, Bool, List, [], ◌∷◌, ◌++◌, Option, None, Some, refl, sym, ap, ◌∙◌, subst, append_assoc}
+use Rattle.std.proofs.Common.{◌≡◌, ◌≢◌, ℕ, List, [], ◌∷◌, ◌++◌, Option, None, Some, refl, sym, ap, ◌∙◌, subst, append_assoc}
 use Rattle.std.specs.List.{AllByRecursion}
 use Rattle.std.proofs.lemmas.List.{append-nil}
 use Rattle.sshpacket.specs.Stream.{Units}
 use Rattle.sshpacket.specs.Suite.{SuiteData}
 use Rattle.sshcore.specs.declared.end.Fault.TheVariants as fault
-use Rattle.sshcore.specs.AskedQuestions.{AnsweredData, ComesLater, GiveAll, IsAskedOnce}
+use Rattle.sshcore.specs.AskedQuestions.{AnsweredData, ComesLater, GiveAll, IsAskedOnce, IsTaken}
 use Rattle.sshcore.specs.Asking.{Answered, AskingAfter, AskingFed, IsSameAsking, asked_at, asked_by, asking_end}
 use Rattle.sshcore.specs.AskingData.{AskingData, WaitingData, asking_setup}
 use Rattle.sshcore.specs.Dialogue.{Answers, AsksByPacket, Cuts, Dialogue, Feeds, IsRested, Leaves, Makes, Rests}
 use Rattle.sshcore.specs.EndData.{Disconnected, EndData, Failed, Open}
 use Rattle.sshcore.specs.EndpointParts.{DecisionsData, Setup}
-use Rattle.sshcore.specs.Questions.{QuestionData, decided, decided_by}
+use Rattle.sshcore.specs.Questions.{AnswerData, HostKeyQuestion, QuestionData, SignatureQuestion, UserQuestion, decided, decided_by, taken}
 use Rattle.sshcore.proofs.AnsweredLemmas.{Rises, asked_once, questions_of, some_decisions}
 use Rattle.sshcore.proofs.AskedOnceLemmas.{Numbered}
 use Rattle.sshcore.proofs.AskedNothing.{asked_none}
@@ -39,6 +39,12 @@ questions_push P (x ∷ xs) a all p = (all.0, questions_push P xs a all.1 p)
 rises_push : (xs : List AnsweredData) (a : AnsweredData) → Rises (questions_of xs) → AllByRecursion (λ (b : AnsweredData). ComesLater b.question a.question) xs → Rises (questions_of (xs ++ a ∷ []))
 rises_push [] a r all = (tt, tt)
 rises_push (x ∷ xs) a r all = (questions_push (ComesLater x.question) xs a r.0 all.0, rises_push xs a r.1 all.1)
+
+-- what is taken for an answer is one
+taken_twice : (q : QuestionData) (answer : AnswerData) → taken q (taken q answer) ≡ taken q answer
+taken_twice (HostKeyQuestion algorithm blob) answer = refl
+taken_twice (UserQuestion number user service proof) answer = refl
+taken_twice (SignatureQuestion number algorithm blob input) answer = refl
 
 abbrev GivesOne : DecisionsData → AnsweredData → Type 0
 GivesOne d a = decided d a.question ≡ a.answer
@@ -71,6 +77,7 @@ module _ {S : Type 0} (meaning : S → SuiteData) where
     after : (d : DecisionsData) → GiveAll d answers → AskingAfter meaning d e h s
     all_asked : (d : DecisionsData) → GiveAll d answers → AllByRecursion (λ (a : AnsweredData). WasAsked d e h a.question) answers
     rises : Rises (questions_of answers)
+    kinds : AllByRecursion IsTaken answers
 
   same_setup : (d : DecisionsData) (old new : AskingData S) → IsSameAsking old new → asking_setup meaning d old ≡ asking_setup meaning d new
   same_setup d old new same = sym (setup_same meaning d old.role new.role old.party new.party old.suite new.suite same.same_role same.same_config same.same_suite)
@@ -97,6 +104,7 @@ module _ {S : Type 0} (meaning : S → SuiteData) where
         (λ a b. asked_then d old new fed.same g taken (λ more some r asks. longer more taken (λ none. some r (sym (nothing none) ∙ asks))) a.question b)
         answers (holds.all_asked d gives);
     rises = holds.rises;
+    kinds = holds.kinds;
   }
 
   -- a pause, after which the same is asked
@@ -108,6 +116,7 @@ module _ {S : Type 0} (meaning : S → SuiteData) where
         (asked_then d old new same h [] (λ more some r asks. longer more [] (λ none. some r (sym (rested.asks ∙ rested.asked) ∙ asks))) a.question b))
         answers (holds.all_asked d gives);
     rises = holds.rises;
+    kinds = holds.kinds;
   }
     where
       same : IsSameAsking old new
@@ -122,6 +131,7 @@ module _ {S : Type 0} (meaning : S → SuiteData) where
         (λ a b. subst (λ (l : List ℕ). WasAsked d new l a.question) (append-nil h) (asked_then d old new same h [] (λ more some r asks. absurd (none r asks)) a.question b))
         answers (holds.all_asked d gives);
     rises = holds.rises;
+    kinds = holds.kinds;
   }
 
   module _ (streams : Streams) (numbers : Numbered) where
@@ -131,10 +141,10 @@ module _ {S : Type 0} (meaning : S → SuiteData) where
     comes_later old earlier h t q holds packet asks = all_weaker (λ (a : AnsweredData). WasAsked d old h a.question) (λ (a : AnsweredData). ComesLater a.question q) by earlier (holds.all_asked d gives)
       where
         d : DecisionsData
-        d = (some_decisions earlier (asked_once (questions_of earlier) holds.rises)).0
+        d = (some_decisions earlier (asked_once (questions_of earlier) holds.rises) holds.kinds).0
 
         gives : GiveAll d earlier
-        gives = (some_decisions earlier (asked_once (questions_of earlier) holds.rises)).1
+        gives = (some_decisions earlier (asked_once (questions_of earlier) holds.rises) holds.kinds).1
 
         x : (asking_end old ≡ Open) × (w : WaitingData) × (old.waiting ≡ Some w) × (w.question ≡ q)
         x = asked_so (asking_end old) old.waiting q asks
@@ -148,8 +158,9 @@ module _ {S : Type 0} (meaning : S → SuiteData) where
             (asks_later streams (asking_setup meaning d old) numbers b.units (holds.after d gives).stands.units b.w x.1 b.front b.more (b.some q asks) b.waits
             (subst (λ (l : List ℕ). WaitsAfter (asking_setup meaning d old) (holds.after d gives).stands.units x.1 l) b.received here)))
 
-    holds_answered : (old new : AskingData S) (earlier : List AnsweredData) (question : QuestionData) (answer : Bool) (h t before after : List ℕ) → Holds old earlier h t → AsksByPacket meaning old
-        → asked_by old ≡ Some question → (answered : Answered meaning answer old new before after) → Holds new (earlier ++ record { question = question; answer = answer } ∷ []) h (t ++ answered.added)
+    holds_answered : (old new : AskingData S) (earlier : List AnsweredData) (question : QuestionData) (answer : AnswerData) (h t before after : List ℕ) → Holds old earlier h t → AsksByPacket meaning old
+        → asked_by old ≡ Some question → (answered : Answered meaning (taken question answer) old new before after)
+        → Holds new (earlier ++ record { question = question; answer = taken question answer } ∷ []) h (t ++ answered.added)
     holds_answered old new earlier question answer h t before after holds packet asks answered = record {
       after = λ d gives. let parts = all_front (GivesOne d) earlier last gives in answered.follows d (ap (decided_by d) asks ∙ parts.1) h t (holds.after d parts.0);
       all_asked = λ d gives. let parts = all_front (GivesOne d) earlier last gives in
@@ -159,10 +170,11 @@ module _ {S : Type 0} (meaning : S → SuiteData) where
           earlier (holds.all_asked d parts.0))
           (now d (holds.after d parts.0));
       rises = rises_push earlier last holds.rises (comes_later old earlier h t question holds packet asks);
+      kinds = all_push IsTaken earlier last holds.kinds (taken_twice question answer);
     }
       where
         last : AnsweredData
-        last = record { question = question; answer = answer }
+        last = record { question = question; answer = taken question answer }
 
         none : (r : QuestionData) → asked_by new ≡ Some r → ⊥
         none = asks_nothing new answered.waits_for_none
@@ -183,7 +195,7 @@ module _ {S : Type 0} (meaning : S → SuiteData) where
         }
 
     holds : (e : AskingData S) (answers : List AnsweredData) (h s : List ℕ) → Dialogue meaning e answers h s → Holds e answers h s
-    holds e answers h s (Makes role party suite new before after made) = record { after = λ d gives. made.begins d; all_asked = λ d gives. tt; rises = tt }
+    holds e answers h s (Makes role party suite new before after made) = record { after = λ d gives. made.begins d; all_asked = λ d gives. tt; rises = tt; kinds = tt }
     holds e answers h s (Feeds old new given g t taken before after dialogue fed nothing) = holds_fed old new given g t taken before after (holds old given g t dialogue) fed nothing
     holds e answers h s (Answers old new earlier question answer g t before after dialogue packet asks answered) =
         holds_answered old new earlier question answer g t before after (holds old earlier g t dialogue) packet asks answered
@@ -201,5 +213,5 @@ module _ {S : Type 0} (meaning : S → SuiteData) where
 
     pub decisions_of : (e : AskingData S) (answers : List AnsweredData) (h s : List ℕ) → Dialogue meaning e answers h s → (d : DecisionsData) × GiveAll d answers × AskingAfter meaning d e h s
     decisions_of e answers h s dialogue =
-        let some = some_decisions answers (answered_once e answers h s dialogue) in
+        let some = some_decisions answers (answered_once e answers h s dialogue) (holds e answers h s dialogue).kinds in
         (some.0, some.1, stands_by e answers h s dialogue some.0 some.1)

@@ -25,14 +25,17 @@ use Rattle.sshcore.specs.declared.table.Phase.TheVariants as phase
 use Rattle.sshcore.specs.Brings.{Gives, IsOngoing, StandsAt}
 use Rattle.sshcore.specs.Directions.{spelled_by}
 use Rattle.sshcore.specs.EndData.{EndData, Failed, Open, Reply, fails, goes}
-use Rattle.sshcore.specs.Exchange.{exchange_with, host_key_read, keys_by, secret_of, share_read}
+use Rattle.sshcore.specs.Exchange.{answer_with, exchange_with, host_key_read, keys_by, secret_of, share_read}
 use Rattle.sshcore.specs.Exchanged.{Accepts, AnswersInit, HasForm, IsSigned, JudgesReply, ReceivesExchange, Refuses, StandsAfter, client_shares, exchange_of_message, exchanged, kex_keys, server_shares}
 use Rattle.sshcore.specs.History.{AllFit, FitsPacket}
 use Rattle.sshcore.specs.StateData.{StateData, with_exchange}
 use Rattle.sshcore.specs.Output.{Sending, sending_from, sent_from, with_newkeys, with_packet}
 use Rattle.sshcore.specs.EndpointParts.{ConfigData, DecisionsData, setup_with}
+use Rattle.sshcore.specs.Known.{Known}
 use Rattle.sshcore.specs.Phases.{past_exchange, past_kexinit}
-use Rattle.sshcore.specs.Work.{answered_by, init_reply, reply_in, reply_reply, signed_by, told_by, userauth}
+use Rattle.sshcore.specs.Questions.{SignatureQuestion, exchange_question, init_question}
+use Rattle.sshcore.specs.Signatures.{signature_by}
+use Rattle.sshcore.specs.Work.{init_reply, reply_in, reply_reply, signed_by, signed_reply, told_by, userauth}
 use Rattle.sshcore.proofs.GivesLemmas.{sent_then}
 use Rattle.sshcore.proofs.HistoryLemmas.{fit_both}
 use Rattle.sshcore.proofs.OutputLemmas.{sent_switch, sent_two}
@@ -167,48 +170,95 @@ module _ (m : SuiteData) (role : Side) (party : ConfigData) (old new : StateData
         known_is = ap (λ (k : StateData). k.known) stands.kept ∙ ap (λ (h : List ℕ). record old.known { session = h }) is;
       })
 
+-- What a server asks at this share: nothing where the suite holds its key, or gives no shared secret; else the signature of what is hashed.
+module _ (m : SuiteData) (party : ConfigData) (known : Known) (message : MessageData) (share : List ℕ) (read : share_read (Ok message) ≡ share) where
+  exchange_of_share : (answer : ResponseData) → m.respond known.algorithms.kex party.random share ≡ Some answer
+      → exchange_with m Server party known.algorithms known.version known.kexinit (Ok message) ≡ exchanged Server party known (server_shares m party known share answer)
+  unfolding exchange_with exchange_by
+  exchange_of_share answer given = rw (read, given) refl
+
+  pub held_asks_none : m.holds known.algorithms.host_key (secret_of party.host_keys known.algorithms.host_key) ≡ true → None ≡ init_question m Server party known message
+  unfolding init_question
+  held_asks_none held = by (answer_with m Server party known.algorithms (Ok message))
+    where
+      by : (o : Option ResponseData) → None ≡ exchange_question m party known (exchange_with m Server party known.algorithms known.version known.kexinit (Ok message)) o
+      by None = refl
+      by (Some answer) = rw held refl
+
+  pub refused_asks_none : m.respond known.algorithms.kex party.random share ≡ None → None ≡ init_question m Server party known message
+  unfolding init_question
+  refused_asks_none none = rw (read, none) refl
+
+  pub unheld_asks : (role : Side) (answer : ResponseData) → role ≡ Server → m.respond known.algorithms.kex party.random share ≡ Some answer
+      → m.holds known.algorithms.host_key (secret_of party.host_keys known.algorithms.host_key) ≡ false
+      → Some (SignatureQuestion 0 known.algorithms.host_key (m.blob known.algorithms.host_key (secret_of party.host_keys known.algorithms.host_key))
+      (exchange_hash m known.algorithms.kex (exchanged role party known (server_shares m party known share answer)))) ≡ init_question m Server party known message
+  unfolding init_question
+  unheld_asks role answer is given off =
+      let own : init_question m Server party known message ≡ Some (SignatureQuestion 0 known.algorithms.host_key (m.blob known.algorithms.host_key (secret_of party.host_keys known.algorithms.host_key))
+      (exchange_hash m known.algorithms.kex (exchanged Server party known (server_shares m party known share answer)))) = rw (exchange_of_share answer given, read, given, off) refl in
+      ap (λ (r : Side). Some (SignatureQuestion 0 known.algorithms.host_key (m.blob known.algorithms.host_key (secret_of party.host_keys known.algorithms.host_key))
+      (exchange_hash m known.algorithms.kex (exchanged r party known (server_shares m party known share answer))))) is ∙ sym own
+
 -- A server, that receives this share.
-module _ (m : SuiteData) (party : ConfigData) (old new : StateData) (before after : List ℕ) (message : MessageData) (share : List ℕ) (read : share_read (Ok message) ≡ share) where
+module _ (m : SuiteData) (d : DecisionsData) (party : ConfigData) (old new : StateData) (before after : List ℕ) (message : MessageData) (share : List ℕ) (read : share_read (Ok message) ≡ share) where
   -- what it hashes, once it has answered
   hashed_server : (answer : ResponseData) → m.respond old.known.algorithms.kex party.random share ≡ Some answer
       → exchange_of_message m Server party old.known message ≡ exchanged Server party old.known (server_shares m party old.known share answer)
   unfolding exchange_with exchange_by
   hashed_server answer given = rw (read, given) refl
 
+  -- the signature of that
+  abbrev signature_of : ResponseData → Option (List ℕ)
+  signature_of answer = signature_by m d 0 old.known.algorithms.host_key (secret_of party.host_keys old.known.algorithms.host_key)
+      (exchange_hash m old.known.algorithms.kex (exchanged Server party old.known (server_shares m party old.known share answer)))
+
   -- and what it replies
   init_is : (answer : ResponseData) → m.respond old.known.algorithms.kex party.random share ≡ Some answer
-      → init_reply m Server party old.known message ≡ answered_by m party old.known (exchanged Server party old.known (server_shares m party old.known share answer)) (Some answer)
+      → init_reply m d Server party old.known message ≡ signed_reply party old.known (exchanged Server party old.known (server_shares m party old.known share answer)) (signature_of answer)
   unfolding init_reply
   init_is answer given = rw (hashed_server answer given, read, given) refl
 
   -- where there is no shared secret it fails
   pub init_fails : m.respond old.known.algorithms.kex party.random share ≡ None
       → ((strict : Bool) (next : KeysData) → Gives m party.seed strict next old new before after (fails fault.Exchange))
-      → ReceivesExchange m Server party old new before after message (init_reply m Server party old.known message)
+      → ReceivesExchange m Server party old new before after message (init_reply m d Server party old.known message)
   unfolding init_reply
-  init_fails none gives = receives_failure m Server party old new before after message fault.Exchange (init_reply m Server party old.known message) (rw (read, none) refl) gives
+  init_fails none gives = receives_failure m Server party old new before after message fault.Exchange (init_reply m d Server party old.known message) (rw (read, none) refl) gives
+
+  -- and where there is no signature
+  pub init_unsigned : (role : Side) (answer : ResponseData) → role ≡ Server → m.respond old.known.algorithms.kex party.random share ≡ Some answer
+      → signature_by m d 0 old.known.algorithms.host_key (secret_of party.host_keys old.known.algorithms.host_key)
+      (exchange_hash m old.known.algorithms.kex (exchanged role party old.known (server_shares m party old.known share answer))) ≡ None
+      → ((strict : Bool) (next : KeysData) → Gives m party.seed strict next old new before after (fails fault.Exchange))
+      → ReceivesExchange m Server party old new before after message (init_reply m d Server party old.known message)
+  init_unsigned role answer is given none gives =
+      let unsigned : signature_of answer ≡ None =
+      subst (λ (r : Side). signature_by m d 0 old.known.algorithms.host_key (secret_of party.host_keys old.known.algorithms.host_key)
+      (exchange_hash m old.known.algorithms.kex (exchanged r party old.known (server_shares m party old.known share answer))) ≡ None) is none in
+      receives_failure m Server party old new before after message fault.Exchange (init_reply m d Server party old.known message)
+      (init_is answer given ∙ ap (signed_reply party old.known (exchanged Server party old.known (server_shares m party old.known share answer))) unsigned) gives
 
   -- else it answers
   answers_as_server : (answer : ResponseData) (hash host_key reply : List ℕ) → m.respond old.known.algorithms.kex party.random share ≡ Some answer
       → old.end ≡ Open → old.phase ≡ phase.Exchange → HasForm m old
-      → IsSigned m Server party old.known share answer hash host_key reply → AnswersInit m Server party old new host_key answer.shared hash reply before after
-      → ReceivesExchange m Server party old new before after message (init_reply m Server party old.known message)
+      → IsSigned m d Server party old.known share answer hash host_key reply → AnswersInit m Server party old new host_key answer.shared hash reply before after
+      → ReceivesExchange m Server party old new before after message (init_reply m d Server party old.known message)
   answers_as_server answer hash host_key reply given ongoing at form signed sent =
       let a : AlgorithmsData = old.known.algorithms in
       let secret : List ℕ = secret_of party.host_keys a.host_key in
       let x : ExchangeData = exchanged Server party old.known (server_shares m party old.known share answer) in
       let next : KeysData = keys_by m a x Server in
       let keys : kex_keys m a answer.shared hash Server ≡ next = ap (λ (h : List ℕ). kex_keys m a answer.shared h Server) signed.hash_is ∙ keys_of_exchange m a x Server in
-      let same : reply ≡ written_message (reply_in old.known.shares x.host_key answer.share (m.sign a.host_key secret (exchange_hash m a.kex x))) =
-      signed.reply_is
-      ∙ ap (λ (h : List ℕ). written_message (reply_in (m.share_form a.kex) x.host_key answer.share (m.sign a.host_key secret h))) signed.hash_is
-      ∙ ap (λ (f : ShareForm). written_message (reply_in f x.host_key answer.share (m.sign a.host_key secret (exchange_hash m a.kex x)))) (sym (form.form (ap past_kexinit at))) in
+      let made : signature_of answer ≡ Some signed.signature = ap (signature_by m d 0 a.host_key secret) (sym signed.hash_is) ∙ signed.signed in
+      let same : reply ≡ written_message (reply_in old.known.shares x.host_key answer.share signed.signature) =
+      signed.reply_is ∙ ap (λ (f : ShareForm). written_message (reply_in f x.host_key answer.share signed.signature)) (sym (form.form (ap past_kexinit at))) in
       let told : Units = told_by party old.known in
       let answers : Units = reply ∷ written_message NewKeys ∷ [] in
-      let is : init_reply m Server party old.known message ≡ goes (reply ∷ written_message NewKeys ∷ told) =
-      init_is answer given ∙ ap (λ (p : List ℕ). goes (p ∷ written_message NewKeys ∷ told)) (sym same) in
+      let is : init_reply m d Server party old.known message ≡ goes (reply ∷ written_message NewKeys ∷ told) =
+      init_is answer given ∙ ap (signed_reply party old.known x) made ∙ ap (λ (p : List ℕ). goes (p ∷ written_message NewKeys ∷ told)) (sym same) in
       let quiet : (kind reply == 21) ≡ false =
-      ap (λ (p : List ℕ). kind p == 21) signed.reply_is ∙ reply_kind (m.share_form a.kex) x.host_key answer.share (m.sign a.host_key secret hash) in
+      ap (λ (p : List ℕ). kind p == 21) signed.reply_is ∙ reply_kind (m.share_form a.kex) x.host_key answer.share signed.signature in
       let two = sent_two m party.seed old.known.strict next old.sending reply (written_message NewKeys) quiet newkeys_kind (form.clear (ap past_exchange at)) in
       let all = sent_then m party.seed old.known.strict next old.sending answers told in
       let own : KeysData = kex_keys m a answer.shared hash Server in
@@ -232,10 +282,10 @@ module _ (m : SuiteData) (party : ConfigData) (old new : StateData) (before afte
 
   pub init_answers : (role : Side) (answer : ResponseData) (shared hash host_key reply : List ℕ) → role ≡ Server → shared ≡ answer.shared
       → m.respond old.known.algorithms.kex party.random share ≡ Some answer → old.end ≡ Open → old.phase ≡ phase.Exchange → HasForm m old
-      → IsSigned m role party old.known share answer hash host_key reply → AnswersInit m role party old new host_key shared hash reply before after
-      → ReceivesExchange m Server party old new before after message (init_reply m Server party old.known message)
+      → IsSigned m d role party old.known share answer hash host_key reply → AnswersInit m role party old new host_key shared hash reply before after
+      → ReceivesExchange m Server party old new before after message (init_reply m d Server party old.known message)
   init_answers role answer shared hash host_key reply is same given ongoing at form signed sent =
-      answers_as_server answer hash host_key reply given ongoing at form (subst (λ (r : Side). IsSigned m r party old.known share answer hash host_key reply) is signed)
+      answers_as_server answer hash host_key reply given ongoing at form (subst (λ (r : Side). IsSigned m d r party old.known share answer hash host_key reply) is signed)
       (subst (λ (l : List ℕ). AnswersInit m Server party old new host_key l hash reply before after) same
       (subst (λ (r : Side). AnswersInit m r party old new host_key shared hash reply before after) is sent))
 

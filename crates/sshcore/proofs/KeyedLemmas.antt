@@ -24,7 +24,7 @@ use Rattle.sshcore.specs.declared.table.Line.{Line}
 use Rattle.sshcore.specs.declared.table.Line.TheVariants as line
 use Rattle.sshcore.specs.declared.table.Phase.{Phase}
 use Rattle.sshcore.specs.declared.table.Phase.TheVariants as phase
-use Rattle.sshcore.specs.Attempts.{attempt_reply, confirmed_by, is_asked, request_of, success_by}
+use Rattle.sshcore.specs.Attempts.{answers_query, attempt_reply, pk_ok_reply, success_by}
 use Rattle.sshcore.specs.Before.{expects_guess, kept, offered, stood, strict_at, strict_towards}
 use Rattle.sshcore.specs.ConfigParts.{AttemptData}
 use Rattle.sshcore.specs.Counting.{number_in, switched_out}
@@ -34,7 +34,7 @@ use Rattle.sshcore.specs.History.{IsReady}
 use Rattle.sshcore.specs.Known.{Known, known_at, waits_at}
 use Rattle.sshcore.specs.EndpointParts.{ConfigData, DecisionsData, Setup}
 use Rattle.sshcore.specs.Phases.{leaving}
-use Rattle.sshcore.specs.Plan.{after_query, next_after}
+use Rattle.sshcore.specs.Plan.{confirmed, next_after}
 use Rattle.sshcore.specs.Replies.{answers_at, line_reply, read_reply}
 use Rattle.sshcore.specs.Requests.{request_reply}
 use Rattle.sshcore.specs.Standing.{Tied}
@@ -115,14 +115,14 @@ still_service party service =
     still_cond (bytes_eq service userauth) (goes (written_message (ServiceAccept userauth) ∷ banner_by party.banner)) (fails fault.Service) (still_banner party.banner) (still_fails fault.Service)
 
 -- requests and their answers
-still_attempt : (m : SuiteData) (session : List ℕ) (left : List AttemptData) → IsStill (attempt_reply m session left).answers
+still_attempt : (m : SuiteData) (d : DecisionsData) (session : List ℕ) (left : List AttemptData) → IsStill (attempt_reply m d session left).answers
 unfolding switched_out written_message
-still_attempt m session [] = still_fails fault.NoMoreMethods
-still_attempt m session (a ∷ later) = refl
+still_attempt m d session [] = still_fails fault.NoMoreMethods
+still_attempt m d session (a ∷ later) = refl
 
-still_accept : (m : SuiteData) (known : Known) (service : List ℕ) → IsStill (accept_reply m known service).answers
-still_accept m known service =
-    still_cond (bytes_eq service userauth) (attempt_reply m known.session known.left) (fails (fault.Unexpected 6)) (still_attempt m known.session known.left) (still_fails (fault.Unexpected 6))
+still_accept : (m : SuiteData) (d : DecisionsData) (known : Known) (service : List ℕ) → IsStill (accept_reply m d known service).answers
+still_accept m d known service =
+    still_cond (bytes_eq service userauth) (attempt_reply m d known.session known.left) (fails (fault.Unexpected 6)) (still_attempt m d known.session known.left) (still_fails (fault.Unexpected 6))
 
 still_success : (known : Known) (left : List AttemptData) → IsStill (success_by known left).answers
 still_success known [] = still_fails (fault.Unexpected 52)
@@ -147,11 +147,10 @@ still_request m d party known user service method = by (answered m d party known
     by (Last last is) = subst (λ (r : Reply). IsStill r.answers) (sym is) (still_fails fault.TooManyTries)
     by (More x refusal more is) = subst (λ (r : Reply). IsStill r.answers) (sym is) (still_refusal m d party known user service x refusal)
 
-still_confirmed : (m : SuiteData) (known : Known) (algorithm key : List ℕ) (left : List AttemptData) → IsStill (confirmed_by m known algorithm key left).answers
-still_confirmed m known algorithm key [] = still_fails (fault.Unexpected 60)
-still_confirmed m known algorithm key (a ∷ later) =
-    still_cond (is_asked m a.proving algorithm key) (goes (request_of m known.session (after_query a) ∷ [])) (fails (fault.Unexpected 60))
-    (still_attempt m known.session (after_query a ∷ [])) (still_fails (fault.Unexpected 60))
+still_confirmed : (m : SuiteData) (d : DecisionsData) (known : Known) (algorithm key : List ℕ) → IsStill (pk_ok_reply m d known algorithm key).answers
+still_confirmed m d known algorithm key =
+    still_cond (answers_query m algorithm key known.left) (attempt_reply m d known.session (confirmed known.left)) (fails (fault.Unexpected 60))
+    (still_attempt m d known.session (confirmed known.left)) (still_fails (fault.Unexpected 60))
 
 -- at this place the exchange message comes
 pub record IsExchangePlace (role : Side) (party : ConfigData) (before : Units) (payload : List ℕ) (p : Phase) : Type 0 where
@@ -175,11 +174,11 @@ module _ (below : Below) (setup : Setup) where
   still_work known (KexdhReply key f signature) a b = absurd (b refl)
   still_work known (KexEcdhReply key share signature) a b = absurd (b refl)
   still_work known (ServiceRequest service) a b = still_service setup.config service
-  still_work known (ServiceAccept service) a b = still_accept setup.suite known service
+  still_work known (ServiceAccept service) a b = still_accept setup.suite setup.decisions known service
   still_work known (UserauthRequest user service method) a b = still_request setup.suite setup.decisions setup.config known user service method
-  still_work known (UserauthFailure listed partial) a b = still_attempt setup.suite known.session (next_after listed known.left)
+  still_work known (UserauthFailure listed partial) a b = still_attempt setup.suite setup.decisions known.session (next_after listed known.left)
   still_work known UserauthSuccess a b = still_success known known.left
-  still_work known (UserauthPkOk algorithm key) a b = still_confirmed setup.suite known algorithm key known.left
+  still_work known (UserauthPkOk algorithm key) a b = still_confirmed setup.suite setup.decisions known algorithm key
   still_work known _ a b = still_none
 
   still_read : (known : Known) (packet : ℕ) (payload : List ℕ) → kind payload ≢ 30 → kind payload ≢ 31 → IsStill (line_reply setup known packet line.Reads payload).answers

@@ -18,6 +18,7 @@ pub mod PlanLemmas
 pub mod IgnoredLimitLemmas
 pub mod KnownLemmas
 pub mod CountingLemmas
+pub mod SignatureLemmas
 pub mod StandingLemmas
 pub mod StreamLemmas
 pub mod KeyedLemmas

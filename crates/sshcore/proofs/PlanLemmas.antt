@@ -80,6 +80,11 @@ module _ (role : Side) (party : ConfigData) (before : Units) (payload : List ℕ
   pub left_stays : is_answered role party.offer before payload ≡ false → left_at role party (before ++ payload ∷ []) ≡ left_at role party before
   left_stays none = ap (left_after party.plan) (all_push role party.offer before payload is_answer ∙ rw none (append-nil (all_kept role party.offer is_answer before)))
 
+  pub left_answered : is_answered role party.offer before payload ≡ true → left_at role party (before ++ payload ∷ []) ≡ left_after_one (left_at role party before) payload
+  left_answered on =
+      ap (left_after party.plan) (all_push role party.offer before payload is_answer ∙ ap (λ (b : Bool). all_kept role party.offer is_answer before ++ cond b (payload ∷ []) []) on)
+      ∙ left_push party.plan (all_kept role party.offer is_answer before) payload
+
   pub left_more : expects_guess role party.offer before ≡ false
       → left_at role party (before ++ payload ∷ []) ≡ cond (is_answer (kind payload)) (left_after_one (left_at role party before) payload) (left_at role party before)
   left_more none =

@@ -6,7 +6,7 @@ use Rattle.std.proofs.lemmas.Bool.{cases_Bool, eqb-true}
 use Rattle.sshwire.specs.declared.share_form.ShareForm.TheVariants.{Mpint}
 use Rattle.sshmsg.proofs.NumberLemmas.{reads_alike}
 use Rattle.sshmsg.specs.declared.fault.MsgFault.{MsgFault}
-use Rattle.sshmsg.specs.MessageData.{KexEcdhReply, KexdhReply, MessageData, MethodData, NoMethod, OtherMethod, Password, PasswordChange, PublicKey, PublicKeyQuery, UserauthFailure, UserauthPkOk, UserauthRequest}
+use Rattle.sshmsg.specs.MessageData.{KexEcdhInit, KexEcdhReply, KexdhInit, KexdhReply, MessageData, MethodData, NoMethod, OtherMethod, Password, PasswordChange, PublicKey, PublicKeyQuery, ServiceAccept, UserauthFailure, UserauthPkOk, UserauthRequest}
 use Rattle.sshmsg.specs.Messages.{message_in}
 use Rattle.sshmsg.specs.Numbers.{kind}
 use Rattle.sshmsg.specs.Written.{written_message}
@@ -28,7 +28,7 @@ use Rattle.sshcore.specs.Exchange.{answer_with, exchange_with, host_key_by, keys
 use Rattle.sshcore.specs.Known.{Known}
 use Rattle.sshcore.specs.Phases.{next_phase}
 use Rattle.sshcore.specs.Plan.{is_waiting}
-use Rattle.sshcore.specs.Questions.{HostKeyQuestion, QuestionData, UserQuestion, decided, decided_by, line_question, message_question, method_question, claim_question, query_question, question_at, request_question}
+use Rattle.sshcore.specs.Questions.{AnswerData, HostKeyQuestion, QuestionData, UserQuestion, decided, decided_by, is_yes, line_question, message_question, method_question, claim_question, query_question, question_at, request_question}
 use Rattle.sshcore.specs.Replies.{allowed, line_reply, read_reply}
 use Rattle.sshcore.specs.Requests.{is_last_try, is_successful, method_reply, more_reply, query_answer, request_reply, tried_reply}
 use Rattle.sshcore.specs.Standing.{after_payload, exchange_received}
@@ -38,6 +38,7 @@ use Rattle.sshcore.specs.Tries.{claimed_proof, is_decided, is_supported, is_veri
 use Rattle.sshcore.specs.Work.{reply_reply, signed_by, work}
 use Rattle.sshcore.proofs.IgnoredLimitLemmas.{allowed_number}
 use Rattle.sshcore.proofs.RequestLemmas.{successful_claim}
+use Rattle.sshcore.proofs.SignatureLemmas.{accept_alike, failure_alike, init_alike, pk_ok_alike}
 use Rattle.sshcore.proofs.WorksLemmas.{failed_ends}
 
 -- a line that reads, or that fails the endpoint
@@ -71,7 +72,7 @@ module _ (m : SuiteData) (role : Side) (party : ConfigData) (d e : DecisionsData
   claim_alike : (number : ℕ) (user service : List ℕ) (o : Option ProofData) → Alike (claim_question number user service o)
       → is_decided d number user service o ≡ is_decided e number user service o
   claim_alike number user service None alike = refl
-  claim_alike number user service (Some proof) alike = alike
+  claim_alike number user service (Some proof) alike = ap is_yes alike
 
   claimed_alike : (known : Known) (user service : List ℕ) (method : MethodData) → Alike (claim_question known.request user service (claimed_proof m party method))
       → is_successful m d party known user service method ≡ is_successful m e party known user service method
@@ -93,9 +94,9 @@ module _ (m : SuiteData) (role : Side) (party : ConfigData) (d e : DecisionsData
   -- what is answered to a query, by what decides whether it asks
   would_alike : (last listed named short : Bool) (q : QuestionData) (f : Reply) (g : Bool → Reply)
       → Alike (if last then None else if listed && (named && short) then Some q else None)
-      → (if last then f else g (listed && (named && (short && decided d q)))) ≡ (if last then f else g (listed && (named && (short && decided e q))))
+      → (if last then f else g (listed && (named && (short && is_yes (decided d q))))) ≡ (if last then f else g (listed && (named && (short && is_yes (decided e q)))))
   would_alike true listed named short q f g alike = refl
-  would_alike false true true true q f g alike = ap g alike
+  would_alike false true true true q f g alike = ap (λ (a : AnswerData). g (is_yes a)) alike
   would_alike false true true false q f g alike = refl
   would_alike false true false short q f g alike = refl
   would_alike false false named short q f g alike = refl
@@ -133,14 +134,19 @@ module _ (m : SuiteData) (role : Side) (party : ConfigData) (d e : DecisionsData
       → reply_reply (setup_with m d role party) known c signature ≡ reply_reply (setup_with m e role party) known c signature
   unfolding reply_reply exchange_with exchange_by
   reply_alike known c signature alike =
-      ap (λ (b : Bool). if b then signed_by m known (exchange_with m role party known.algorithms known.version known.kexinit (Ok c)) signature (answer_with m role party known.algorithms (Ok c)) else fails fault.HostKey) alike
+      ap (λ (a : AnswerData). if is_yes a then signed_by m known (exchange_with m role party known.algorithms known.version known.kexinit (Ok c)) signature (answer_with m role party known.algorithms (Ok c)) else fails fault.HostKey) alike
 
   work_alike : (known : Known) (c : MessageData) → Alike (message_question m role party known (Ok c))
       → work (setup_with m d role party) known c ≡ work (setup_with m e role party) known c
   unfolding work
   work_alike known (KexdhReply host_key f signature) alike = reply_alike known (KexdhReply host_key f signature) signature alike
   work_alike known (KexEcdhReply host_key share signature) alike = reply_alike known (KexEcdhReply host_key share signature) signature alike
+  work_alike known (KexdhInit share) alike = init_alike m d e role party known (KexdhInit share) alike
+  work_alike known (KexEcdhInit share) alike = init_alike m d e role party known (KexEcdhInit share) alike
+  work_alike known (ServiceAccept service) alike = accept_alike m d e known service alike
   work_alike known (UserauthRequest user service method) alike = request_alike known user service method alike
+  work_alike known (UserauthFailure listed partial) alike = failure_alike m d e known listed alike
+  work_alike known (UserauthPkOk algorithm key) alike = pk_ok_alike m d e known algorithm key alike
   work_alike known _ alike = refl
 
   read_alike : (known : Known) (n : ℕ) (r : Result MessageData MsgFault) → Alike (message_question m role party known r)

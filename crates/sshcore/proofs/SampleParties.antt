@@ -35,6 +35,7 @@ toy = record {
   respond = λ kex random peer. if bytes_eq peer (0 ∷ []) then None else Some (record { share = 1 ∷ random; shared = 7 ∷ [] });
   digest = λ kex input. slice_index input (length input - 2) ∷ [];
   blob = λ alg secret. 66 ∷ secret;
+  holds = λ alg secret. true;
   sign = λ alg secret input. 83 ∷ secret;
   verify = λ alg blob input signature. bytes_eq signature (83 ∷ 0 ∷ []);
 }
@@ -93,7 +94,7 @@ o = codes "o" ∷ []
 
 -- whoever trusts every host key, and whoever trusts none
 unfoldable pub trusting : DecisionsData
-trusting = record { host_key = λ alg blob. true; user = λ number user service proof. true }
+trusting = record { host_key = λ alg blob. true; user = λ number user service proof. true; signature = λ number algorithm blob input. None }
 
 unfoldable pub wary : DecisionsData
-wary = record { host_key = λ alg blob. false; user = λ number user service proof. true }
+wary = record { host_key = λ alg blob. false; user = λ number user service proof. true; signature = λ number algorithm blob input. None }

@@ -308,10 +308,10 @@ entered = hello true ∷ init ∷ (21 ∷ []) ∷ request ∷ []
 
 -- whoever says no to every request, yes to the second, and yes to one password and one key
 refusing : DecisionsData
-refusing = record { host_key = λ alg blob. true; user = λ number user service proof. false }
+refusing = record { host_key = λ alg blob. true; user = λ number user service proof. false; signature = λ number algorithm blob input. None }
 
 second : DecisionsData
-second = record { host_key = λ alg blob. true; user = λ number user service proof. number == 2 }
+second = record { host_key = λ alg blob. true; user = λ number user service proof. number == 2; signature = λ number algorithm blob input. None }
 
 knows : ProofData → Bool
 knows NoProof = false
@@ -319,7 +319,7 @@ knows (PasswordProof password) = bytes_eq password (codes "pw")
 knows (KeyProof algorithm key) = bytes_eq algorithm (codes "k") && bytes_eq key (66 ∷ 5 ∷ [])
 
 knowing : DecisionsData
-knowing = record { host_key = λ alg blob. true; user = λ number user service proof. knows proof }
+knowing = record { host_key = λ alg blob. true; user = λ number user service proof. knows proof; signature = λ number algorithm blob input. None }
 
 -- a suite that verifies a signature which is what is signed
 checker : SuiteData

@@ -56,7 +56,8 @@ use Rattle.sshcore.specs.Sessions.{AcceptedBy, HasAccepted, IsSession}
 use Rattle.sshcore.specs.Standing.{Tied}
 use Rattle.sshcore.specs.Table.{line_by}
 use Rattle.sshcore.specs.Tries.{last_key, successful_keys_at, tried_at, tried_with}
-use Rattle.sshcore.specs.Work.{answered_by, init_reply, making, reply_in, reply_reply, signed_by, trusted_by, userauth, work, told_by}
+use Rattle.sshcore.specs.Signatures.{signature_by}
+use Rattle.sshcore.specs.Work.{answered_by, init_reply, making, reply_in, reply_reply, signed_by, signed_reply, trusted_by, userauth, work, told_by}
 use Rattle.sshcore.proofs.IgnoredLimitLemmas.{always_allowed, exchange_heeded}
 use Rattle.sshcore.proofs.AuthenticatedLemmas.{auth_switched, authenticated, ends_tried, last_tied, none_refused}
 use Rattle.sshcore.proofs.Below.{Below}
@@ -84,15 +85,20 @@ switches_last answers more on = switched_append answers more ∙ rw on (by (swit
 
 module _ (m : SuiteData) (d : DecisionsData) (party : ConfigData) (known : Known) (x : ExchangeData) where
   -- an exchange message that leaves the endpoint open is answered by NEWKEYS
-  answered_switches : (r : Option ResponseData) → (answered_by m party known x r).end ≡ Open → Switches (answered_by m party known x r).answers
+  hashed_switches : (found : Option (List ℕ)) → (signed_reply party known x found).end ≡ Open → Switches (signed_reply party known x found).answers
   unfolding switched_out written_message
-  answered_switches None is_open = absurd cc
-  answered_switches (Some answer) is_open = by known.shares (m.sign known.algorithms.host_key (secret_of party.host_keys known.algorithms.host_key) (exchange_hash m known.algorithms.kex x))
+  hashed_switches None is_open = absurd cc
+  hashed_switches (Some found) is_open = by known.shares found
     where
       by : (form : ShareForm) (signature : List ℕ) → Switches (written_message (reply_in form x.host_key x.server_share signature) ∷ written_message NewKeys ∷ told_by party known)
       by Mpint signature = refl
       by OctetString signature = refl
       by Hybrid signature = refl
+
+  answered_switches : (r : Option ResponseData) → (answered_by m d party known x r).end ≡ Open → Switches (answered_by m d party known x r).answers
+  answered_switches None is_open = absurd cc
+  answered_switches (Some answer) is_open =
+      hashed_switches (signature_by m d 0 known.algorithms.host_key (secret_of party.host_keys known.algorithms.host_key) (exchange_hash m known.algorithms.kex x)) is_open
 
   signed_switches : (signature : List ℕ) (r : Option ResponseData) → (signed_by m known x signature r).end ≡ Open → Switches (signed_by m known x signature r).answers
   unfolding switched_out written_message

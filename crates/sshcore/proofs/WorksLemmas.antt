@@ -175,13 +175,13 @@ module _ (setup : Setup) (old new : StateData) (payload before after : List ℕ)
             (rw (same, read, ← none) (h.stands goes_on));
       }
 
-  pub init_works : number_of c ≡ 30 → work setup old.known c ≡ init_reply setup.suite setup.role setup.config old.known c
-      → ReceivesExchange setup.suite Server setup.config old new before after c (init_reply setup.suite Server setup.config old.known c)
+  pub init_works : number_of c ≡ 30 → work setup old.known c ≡ init_reply setup.suite setup.decisions setup.role setup.config old.known c
+      → ReceivesExchange setup.suite Server setup.config old new before after c (init_reply setup.suite setup.decisions Server setup.config old.known c)
       → Works setup old new payload before after (work setup old.known c)
   init_works number is h =
       let at = at_init setup.role old payload c has number in
-      by_reply (init_reply setup.suite Server setup.config old.known c) (is ∙ ap (λ (x : Side). init_reply setup.suite x setup.config old.known c) at.side_is)
-      (exchange_works Server 30 (init_reply setup.suite Server setup.config old.known c) number refl at h)
+      by_reply (init_reply setup.suite setup.decisions Server setup.config old.known c) (is ∙ ap (λ (x : Side). init_reply setup.suite setup.decisions x setup.config old.known c) at.side_is)
+      (exchange_works Server 30 (init_reply setup.suite setup.decisions Server setup.config old.known c) number refl at h)
 
   pub reply_works : (signature : List ℕ) → number_of c ≡ 31 → work setup old.known c ≡ reply_reply setup old.known c signature
       → ReceivesExchange setup.suite Client setup.config old new before after c (reply_reply (setup_with setup.suite setup.decisions Client setup.config) old.known c signature)
@@ -231,14 +231,14 @@ module _ (setup : Setup) (old new : StateData) (payload before after : List ℕ)
       (at_request setup.role old payload c has (ap number_of is)) (received_as 5 (ap number_of is) (λ q. omega arith) (λ q. omega arith) (λ q. omega arith) (λ q. omega arith) refl) gives (λ _. keys ∙ carried_as 5 (ap number_of is) (λ q. omega arith)) stands)
 
   pub accept_works : (service : List ℕ) → c ≡ ServiceAccept service
-      → ((strict : Bool) (next : KeysData) → Gives setup.suite setup.config.seed strict next old new before after (accept_reply setup.suite old.known service))
+      → ((strict : Bool) (next : KeysData) → Gives setup.suite setup.config.seed strict next old new before after (accept_reply setup.suite setup.decisions old.known service))
       → new.carried ≡ old.carried
       → (IsOngoing new.end → StandsAt new phase.Auth old.guess (received_one old.known))
       → Works setup old new payload before after (work setup old.known c)
   unfolding work
   accept_works service is gives keys stands =
-      by_reply (accept_reply setup.suite old.known service) (ap (work setup old.known) is)
-      (leaves_works Client phase.Service phase.Auth 6 (received_one old.known) (accept_reply setup.suite old.known service) (ap number_of is) refl refl refl
+      by_reply (accept_reply setup.suite setup.decisions old.known service) (ap (work setup old.known) is)
+      (leaves_works Client phase.Service phase.Auth 6 (received_one old.known) (accept_reply setup.suite setup.decisions old.known service) (ap number_of is) refl refl refl
       (at_accept setup.role old payload c has (ap number_of is)) (received_as 6 (ap number_of is) (λ q. omega arith) (λ q. omega arith) (λ q. omega arith) (λ q. omega arith) refl) gives (λ _. keys ∙ carried_as 6 (ap number_of is) (λ q. omega arith)) stands)
 
   pub user_request_works : (user service : List ℕ) (method : MethodData) → c ≡ UserauthRequest user service method
@@ -280,7 +280,7 @@ module _ (setup : Setup) (old new : StateData) (payload before after : List ℕ)
       }))
 
   pub failure_works : (listed : List (List ℕ)) (partial : Bool) → c ≡ UserauthFailure listed partial
-      → ((strict : Bool) (next : KeysData) → Gives setup.suite setup.config.seed strict next old new before after (failure_reply setup.suite old.known listed))
+      → ((strict : Bool) (next : KeysData) → Gives setup.suite setup.config.seed strict next old new before after (failure_reply setup.suite setup.decisions old.known listed))
       → new ≡ record old { end = new.end; known = failed_attempt old.known listed; sending = new.sending }
       → Works setup old new payload before after (work setup old.known c)
   unfolding work
@@ -288,7 +288,7 @@ module _ (setup : Setup) (old new : StateData) (payload before after : List ℕ)
       let at = at_failure setup.role old payload c has (ap number_of is) in
       let none : old.guess ≡ false = at.none_due in
       let number : kind payload ≡ 51 = has.kind_is ∙ ap number_of is in
-      by_reply (failure_reply setup.suite old.known listed) (ap (work setup old.known) is) (record {
+      by_reply (failure_reply setup.suite setup.decisions old.known listed) (ap (work setup old.known) is) (record {
         gives = gives _ _;
         moves = λ goes_on. Stays none (subst (λ (n : ℕ). LeavesNone setup.role n) (sym number) (table.late_leaves setup.role 51 (omega arith)))
             (ap (λ (k : StateData). k.carried) stays ∙ carried_as 51 (ap number_of is) (λ q. omega arith))
@@ -300,7 +300,7 @@ module _ (setup : Setup) (old new : StateData) (payload before after : List ℕ)
       })
 
   pub pk_ok_works : (algorithm key : List ℕ) → c ≡ UserauthPkOk algorithm key
-      → ((strict : Bool) (next : KeysData) → Gives setup.suite setup.config.seed strict next old new before after (pk_ok_reply setup.suite old.known algorithm key))
+      → ((strict : Bool) (next : KeysData) → Gives setup.suite setup.config.seed strict next old new before after (pk_ok_reply setup.suite setup.decisions old.known algorithm key))
       → (IsOngoing new.end → new ≡ record old { end = new.end; known = confirmed_attempt old.known; sending = new.sending })
       → Works setup old new payload before after (work setup old.known c)
   unfolding work
@@ -308,7 +308,7 @@ module _ (setup : Setup) (old new : StateData) (payload before after : List ℕ)
       let at = at_confirmation setup.role old payload c has (ap number_of is) in
       let none : old.guess ≡ false = at.none_due in
       let number : kind payload ≡ 60 = has.kind_is ∙ ap number_of is in
-      by_reply (pk_ok_reply setup.suite old.known algorithm key) (ap (work setup old.known) is) (record {
+      by_reply (pk_ok_reply setup.suite setup.decisions old.known algorithm key) (ap (work setup old.known) is) (record {
         gives = gives _ _;
         moves = λ goes_on. Stays none (subst (λ (n : ℕ). LeavesNone setup.role n) (sym number) (table.late_leaves setup.role 60 (omega arith)))
             (ap (λ (k : StateData). k.carried) (stays goes_on) ∙ carried_as 60 (ap number_of is) (λ q. omega arith))
@@ -377,11 +377,11 @@ module _ (setup : Setup) (old new : StateData) (payload before : List ℕ) (c : 
 
 -- what the messages of the exchange are answered
 module _ (setup : Setup) (known : Known) (c : MessageData) where
-  pub kexdh_init : (e : List ℕ) → c ≡ KexdhInit e → work setup known c ≡ init_reply setup.suite setup.role setup.config known c
+  pub kexdh_init : (e : List ℕ) → c ≡ KexdhInit e → work setup known c ≡ init_reply setup.suite setup.decisions setup.role setup.config known c
   unfolding work
   kexdh_init e is = rw is refl
 
-  pub kex_ecdh_init : (share : List ℕ) → c ≡ KexEcdhInit share → work setup known c ≡ init_reply setup.suite setup.role setup.config known c
+  pub kex_ecdh_init : (share : List ℕ) → c ≡ KexEcdhInit share → work setup known c ≡ init_reply setup.suite setup.decisions setup.role setup.config known c
   unfolding work
   kex_ecdh_init share is = rw is refl
 

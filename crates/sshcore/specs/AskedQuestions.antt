@@ -6,7 +6,7 @@ use Rattle.sshpacket.specs.Places.{flat_places}
 use Rattle.sshpacket.specs.Stream.{Units}
 use Rattle.sshcore.specs.EndpointParts.{DecisionsData, Setup}
 use Rattle.sshcore.specs.Known.{known_at}
-use Rattle.sshcore.specs.Questions.{HostKeyQuestion, QuestionData, UserQuestion, decided, line_question}
+use Rattle.sshcore.specs.Questions.{AnswerData, HostKeyQuestion, QuestionData, SignatureQuestion, UserQuestion, decided, line_question, taken}
 use Rattle.sshcore.specs.Replies.{line_at}
 
 -- what a payload asks after those before it
@@ -23,10 +23,12 @@ asked (Some question) = question ∷ []
 unfoldable pub questions_at : Setup → List ℕ → Units → List QuestionData
 questions_at setup version before = flat_places (λ b payload. asked (question_after setup version b payload)) [] before
 
--- Two questions may be asked in this order: of two on requests the second has the greater number, and no second one is on a host key.
+-- Two questions may be asked in this order: of two on requests the second has the greater number, of two for signatures the lower
+-- one, and no second one is on a host key.
 abbrev pub ComesLater : QuestionData → QuestionData → Type 0
 ComesLater (HostKeyQuestion algorithm blob) (HostKeyQuestion other_algorithm other_blob) = ⊥
 ComesLater (UserQuestion number user service proof) (UserQuestion other_number other_user other_service other_proof) = number < other_number
+ComesLater (SignatureQuestion number algorithm blob input) (SignatureQuestion other_number other_algorithm other_blob other_input) = other_number < number
 ComesLater one other = ⊤
 
 -- Each is asked once: of any two of them the one that stands later comes later.
@@ -37,7 +39,11 @@ IsAskedOnce questions =
 -- a question with the answer that was given
 pub record AnsweredData : Type 0 where
   pub question : QuestionData
-  pub answer : Bool
+  pub answer : AnswerData
+
+-- an answer is of its question's kind: taken as one of that it stays what it is
+abbrev pub IsTaken : AnsweredData → Type 0
+IsTaken a = taken a.question a.answer ≡ a.answer
 
 -- these decisions give all these answers
 abbrev pub GiveAll : DecisionsData → List AnsweredData → Type 0

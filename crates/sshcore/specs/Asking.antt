@@ -15,7 +15,7 @@ use Rattle.sshcore.specs.EndpointParts.{ConfigData, DecisionsData, Setup}
 use Rattle.sshcore.specs.Endpoints.{held_at}
 use Rattle.sshcore.specs.History.{BrokenOff}
 use Rattle.sshcore.specs.Inputs.{held_by, turns_left}
-use Rattle.sshcore.specs.Questions.{QuestionData, decided_by}
+use Rattle.sshcore.specs.Questions.{AnswerData, QuestionData, decided_by}
 use Rattle.sshcore.specs.StateData.{state_data}
 use Rattle.sshcore.specs.Unread.{AskingStands}
 
@@ -69,11 +69,11 @@ pub record AskingFed {S : Type 0} (meaning : S → SuiteData) (old new : AskingD
   pub same : IsSameAsking old new
 
 -- What an answer did: nothing more is received, and the packet is answered as by all decisions that answer its question so.
-pub record Answered {S : Type 0} (meaning : S → SuiteData) (allowed : Bool) (old new : AskingData S) (before after : List ℕ) : Type 0 where
+pub record Answered {S : Type 0} (meaning : S → SuiteData) (answer : AnswerData) (old new : AskingData S) (before after : List ℕ) : Type 0 where
   pub added : List ℕ
   pub appended : after ≡ before ++ added
-  pub follows : (d : DecisionsData) → decided_by d (asked_by old) ≡ allowed → (h s : List ℕ) → AskingAfter meaning d old h s → AskingAfter meaning d new h (s ++ added)
-  pub uncut : (d : DecisionsData) → decided_by d (asked_by old) ≡ allowed → (h s : List ℕ) → AskingAfter meaning d old h s → by_owner (asking_end new) ≡ false
+  pub follows : (d : DecisionsData) → decided_by d (asked_by old) ≡ answer → (h s : List ℕ) → AskingAfter meaning d old h s → AskingAfter meaning d new h (s ++ added)
+  pub uncut : (d : DecisionsData) → decided_by d (asked_by old) ≡ answer → (h s : List ℕ) → AskingAfter meaning d old h s → by_owner (asking_end new) ≡ false
   pub waits_for_none : new.waiting ≡ None
   pub same : IsSameAsking old new
 

@@ -9,7 +9,7 @@ use Rattle.sshcore.specs.AskingData.{AskingData, WaitingData, asking_setup}
 use Rattle.sshcore.specs.EndData.{Open}
 use Rattle.sshcore.specs.EndpointParts.{ConfigData, DecisionsData}
 use Rattle.sshcore.specs.Paused.{IsResumed, PausedAfter, PausedData, asked_paused}
-use Rattle.sshcore.specs.Questions.{QuestionData, question_at}
+use Rattle.sshcore.specs.Questions.{AnswerData, QuestionData, question_at, taken}
 use Rattle.sshcore.specs.StateData.{state_data}
 
 -- what an endpoint asks is what the packet asks that waits, as `question` promises
@@ -34,9 +34,9 @@ pub data Dialogue {S : Type 0} (meaning : S → SuiteData) : AskingData S → Li
       → Dialogue meaning new [] [] made.added
   Feeds : (old new : AskingData S) (answers : List AnsweredData) (h s taken before after : List ℕ) → Dialogue meaning old answers h s
       → (fed : AskingFed meaning old new taken before after) → (taken ≡ [] → asked_by new ≡ asked_by old) → Dialogue meaning new answers (h ++ taken) (s ++ fed.added)
-  Answers : (old new : AskingData S) (answers : List AnsweredData) (question : QuestionData) (answer : Bool) (h s before after : List ℕ) → Dialogue meaning old answers h s
-      → AsksByPacket meaning old → asked_by old ≡ Some question → (answered : Answered meaning answer old new before after)
-      → Dialogue meaning new (answers ++ record { question = question; answer = answer } ∷ []) h (s ++ answered.added)
+  Answers : (old new : AskingData S) (answers : List AnsweredData) (question : QuestionData) (answer : AnswerData) (h s before after : List ℕ) → Dialogue meaning old answers h s
+      → AsksByPacket meaning old → asked_by old ≡ Some question → (answered : Answered meaning (taken question answer) old new before after)
+      → Dialogue meaning new (answers ++ record { question = question; answer = taken question answer } ∷ []) h (s ++ answered.added)
   Rests : (old new : AskingData S) (answers : List AnsweredData) (h s : List ℕ) → Dialogue meaning old answers h s → IsRested meaning old new
       → Dialogue meaning new answers h s
   Cuts : (old new : AskingData S) (answers : List AnsweredData) (h s : List ℕ) → Dialogue meaning old answers h s → AskingCuts meaning old new

@@ -79,11 +79,13 @@ pub record UserKeyData : Type 0 where
   pub algorithm : List ℕ
   pub blob : List ℕ
 
--- the decisions of whoever runs an endpoint: on a host key (algorithm and blob), and on a request (its number from 1, user,
--- service and proof)
+-- The decisions of whoever runs an endpoint: on a host key (algorithm and blob); on a request (its number from 1, user, service and
+-- proof); and which signature is made by a key that the suite doesn't hold, if one is (how many attempts of a client's plan are left
+-- after this one, 0 at a server; algorithm, public key, and what is signed).
 pub record DecisionsData : Type 0 where
   pub host_key : List ℕ → List ℕ → Bool
   pub user : ℕ → List ℕ → List ℕ → ProofData → Bool
+  pub signature : ℕ → List ℕ → List ℕ → List ℕ → Option (List ℕ)
 
 -- An endpoint's setup: its suite, whom it asks, its role, and its config.
 pub record Setup : Type 0 where

@@ -1,6 +1,6 @@
 -- What an endpoint does at the peer's exchange message (RFC 4253 section 8).
 
-use Rattle.std.specs.Prelude.{◌≡◌, ℕ, ◌≤◌, Bool, true, false, List, ◌++◌, length, None, Ok}
+use Rattle.std.specs.Prelude.{◌≡◌, ℕ, ◌≤◌, Bool, true, false, List, ◌++◌, length, Option, None, Some, Ok}
 use Rattle.sshmsg.specs.MessageData.{MessageData, NewKeys, ServiceRequest}
 use Rattle.sshmsg.specs.Written.{written_message}
 use Rattle.sshneg.specs.declared.side.Side.{Side}
@@ -23,7 +23,9 @@ use Rattle.sshcore.specs.StateData.{StateData, with_exchange}
 use Rattle.sshcore.specs.Output.{Sending, sending_from, sent_from, with_newkeys, with_packet}
 use Rattle.sshcore.specs.Work.{reply_in, told_by, userauth}
 use Rattle.sshcore.specs.Known.{Known}
-use Rattle.sshcore.specs.EndpointParts.{ConfigData}
+use Rattle.sshcore.specs.EndpointParts.{ConfigData, DecisionsData}
+use Rattle.sshcore.specs.Signatures.{signature_by}
+use Rattle.sshcore.specs.declared.exchange.Signed.{Signed}
 use Rattle.sshcore.specs.Phases.{past_exchange, past_kexinit}
 
 -- the form of shares is that of the method, once there is one; and before the exchange nothing is sealed
@@ -90,13 +92,21 @@ server_shares m party known share answer = record {
 }
 
 -- The exchange hash of a server that has answered so, its host key, and the message with its signature.
-pub record IsSigned (m : SuiteData) (role : Side) (party : ConfigData) (known : Known) (share : List ℕ) (answer : ResponseData) (hash host_key reply : List ℕ) : Type 0 where
+pub record IsSigned (m : SuiteData) (d : DecisionsData) (role : Side) (party : ConfigData) (known : Known) (share : List ℕ) (answer : ResponseData) (hash host_key reply : List ℕ) : Type 0 where
   pub hash_is : hash ≡ exchange_hash m known.algorithms.kex (exchanged role party known (server_shares m party known share answer))
   pub short : length hash ≤ DIGEST_LIMIT
   pub host_key_is : host_key ≡ (server_shares m party known share answer).host_key
-  pub reply_is : reply ≡ written_message (reply_in (m.share_form known.algorithms.kex) (server_shares m party known share answer).host_key answer.share
-      (m.sign known.algorithms.host_key (secret_of party.host_keys known.algorithms.host_key) hash))
+  pub signature : List ℕ
+  pub signed : signature_by m d 0 known.algorithms.host_key (secret_of party.host_keys known.algorithms.host_key) hash ≡ Some signature
+  pub reply_is : reply ≡ written_message (reply_in (m.share_form known.algorithms.kex) (server_shares m party known share answer).host_key answer.share signature)
   pub fits : FitsPacket reply
+
+-- What came of signing: that, or no signature was made.
+abbrev pub Signs : SuiteData → DecisionsData → Side → ConfigData → Known → List ℕ → ResponseData → Option Signed → Type 0
+Signs m d role party known share answer None =
+    signature_by m d 0 known.algorithms.host_key (secret_of party.host_keys known.algorithms.host_key)
+    (exchange_hash m known.algorithms.kex (exchanged role party known (server_shares m party known share answer))) ≡ None
+Signs m d role party known share answer (Some s) = IsSigned m d role party known share answer s.hash.items s.host_key.items s.reply.items
 
 -- what is kept after an exchange of this host key, shared secret and hash, with these packets sent
 pub record StandsAfter (m : SuiteData) (role : Side) (party : ConfigData) (old new : StateData) (host_key shared hash : List ℕ) (o : Sending) : Type 0 where

@@ -19,6 +19,7 @@ pub mod Replies
 pub mod Directions
 pub mod StrictSequence
 pub mod StrictClause
+pub mod Signatures
 pub mod Standing
 pub mod History
 pub mod Output

@@ -1,6 +1,8 @@
 -- What is asked, without where it lies in memory.
 
-use Rattle.std.specs.Prelude.{string_bytes}
+use Rattle.std.specs.Prelude.{None, Some, string_bytes}
+use Rattle.sshcore.specs.declared.given.Answer.{Answer}
+use Rattle.sshcore.specs.declared.given.Answer.TheVariants as given
 use Rattle.sshcore.specs.declared.question.Asked.{Asked}
 use Rattle.sshcore.specs.declared.question.Asked.TheVariants as asked
 use Rattle.sshcore.specs.declared.question.AskedProof.{AskedProof}
@@ -9,11 +11,17 @@ use Rattle.sshcore.specs.declared.question.Question.{Question}
 use Rattle.sshcore.specs.declared.question.Question.TheVariants as question
 use Rattle.sshcore.specs.EndpointParts.{KeyProof, NoProof, PasswordProof, ProofData}
 use Rattle.sshcore.specs.EndpointPartsView.{proof_data}
-use Rattle.sshcore.specs.Questions.{HostKeyQuestion, QuestionData, UserQuestion}
+use Rattle.sshcore.specs.Questions.{AnswerData, Decided, HostKeyQuestion, QuestionData, SignatureQuestion, Signed, UserQuestion}
 
 abbrev pub question_data : Question → QuestionData
 question_data (question.HostKey algorithm blob) = HostKeyQuestion algorithm.now blob.now
 question_data (question.User number user service proof) = UserQuestion number user.now service.now (proof_data proof)
+question_data (question.Signature number algorithm blob input) = SignatureQuestion number algorithm.now blob.now input.now
+
+abbrev pub answer_data : Answer → AnswerData
+answer_data (given.Decided allowed) = Decided allowed
+answer_data (given.Signed None) = Signed None
+answer_data (given.Signed (Some signature)) = Signed (Some signature.now)
 
 -- the same of a question that is kept
 abbrev pub asked_proof : AskedProof → ProofData
@@ -24,3 +32,4 @@ asked_proof (kept.Key algorithm blob) = KeyProof (string_bytes algorithm) blob.i
 abbrev pub asked_data : Asked → QuestionData
 asked_data (asked.HostKey algorithm blob) = HostKeyQuestion (string_bytes algorithm) blob.items
 asked_data (asked.User number user service proof) = UserQuestion number (string_bytes user) (string_bytes service) (asked_proof proof)
+asked_data (asked.Signature number algorithm blob input) = SignatureQuestion number (string_bytes algorithm) blob.items input.items

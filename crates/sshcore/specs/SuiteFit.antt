@@ -26,7 +26,7 @@ has_algorithm m i algorithms.EncryptionServerToClient name = i.has_cipher name
 -- whether the suite has what is asked for
 abbrev pub meets : SuiteData → InventoryData → DemandData → Bool
 meets m i (Named list name) = has_algorithm m i list name
-meets m i (Held position algorithm secret) = i.holds algorithm secret
+meets m i (Held position algorithm secret) = m.holds algorithm secret
 
 -- each name of a list
 abbrev pub named_in : AlgorithmList → List (List ℕ) → List DemandData
@@ -56,12 +56,19 @@ abbrev pub plan_asked : ℕ → List AttemptData → List DemandData
 plan_asked position [] = []
 plan_asked position (a ∷ plan) = key_asked position a.proving ++ plan_asked (position + 1) plan
 
+-- the names that a config asks of a suite
+abbrev pub client_names : ClientData → List DemandData
+client_names client = names_asked client.side client.host_key_algorithms
+
+abbrev pub server_names : ServerData → List DemandData
+server_names server = names_asked server.side (key_algorithms server.host_keys)
+
 -- all that a config asks of a suite, in the order in which it is judged: names, then private keys
 abbrev pub client_asked : ClientData → List DemandData
-client_asked client = names_asked client.side client.host_key_algorithms ++ plan_asked 0 client.plan
+client_asked client = client_names client ++ plan_asked 0 client.plan
 
 abbrev pub server_asked : ServerData → List DemandData
-server_asked server = names_asked server.side (key_algorithms server.host_keys) ++ host_keys_asked 0 server.host_keys
+server_asked server = server_names server ++ host_keys_asked 0 server.host_keys
 
 -- a suite fits a config: it has all that the config asks for
 abbrev pub IsFit : SuiteData → InventoryData → List DemandData → Type 0

@@ -16,7 +16,7 @@ use Rattle.sshcore.specs.EndData.{Open}
 use Rattle.sshcore.specs.EndpointParts.{ConfigData, DecisionsData, Setup, setup_with}
 use Rattle.sshcore.specs.Inputs.{CanRead, EndpointStands, Steps}
 use Rattle.sshcore.specs.Keeping.{FitsConfig}
-use Rattle.sshcore.specs.Questions.{decided, question_at}
+use Rattle.sshcore.specs.Questions.{AnswerData, decided, question_at}
 use Rattle.sshcore.specs.StateData.{StateData, keys_due, keys_left}
 
 -- From `i` a packet was read with the last of these bytes, and the reader stands at `j`: nothing is held, and the next packet has the
@@ -79,9 +79,9 @@ AskingSteps m role party i old j new None taken before after = (d : DecisionsDat
 AskingSteps m role party i old j new (Some w) taken before after = StopsAt m role party i old j new w taken before after
 
 -- What an answer did, wherever the packet was read: a step that used the packet's bytes, for all decisions that answer so.
-abbrev pub AnswerSteps : SuiteData → Side → ConfigData → Bool → WaitingData → Input → StateData → Input → StateData → List ℕ → List ℕ → Type 0
-AnswerSteps m role party allowed w j old k new before after =
-    (d : DecisionsData) → decided d w.question ≡ allowed → (i : Input) (taken : List ℕ) → ReadsPacket m i j w taken → Steps (setup_with m d role party) i old k new taken before after
+abbrev pub AnswerSteps : SuiteData → Side → ConfigData → AnswerData → WaitingData → Input → StateData → Input → StateData → List ℕ → List ℕ → Type 0
+AnswerSteps m role party answer w j old k new before after =
+    (d : DecisionsData) → decided d w.question ≡ answer → (i : Input) (taken : List ℕ) → ReadsPacket m i j w taken → Steps (setup_with m d role party) i old k new taken before after
 
 -- The keys that are due after a packet are taken into use (RFC 4253 section 7.3), from number 0 where the endpoint is strict.
 abbrev pub reads_with : Option KeysData → Bool → PacketReaderData → PacketReaderData

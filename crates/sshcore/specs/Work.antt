@@ -28,6 +28,7 @@ use Rattle.sshcore.specs.Exchange.{answer_with, choice_with, exchange_with, own_
 use Rattle.sshcore.specs.Known.{Known}
 use Rattle.sshcore.specs.EndpointParts.{ConfigData, DecisionsData, Setup}
 use Rattle.sshcore.specs.Requests.{request_reply}
+use Rattle.sshcore.specs.Signatures.{signature_by}
 
 -- the messages of an exchange in a form of shares: RFC 4253 section 8, RFC 5656 section 4
 abbrev pub init_in : ShareForm → List ℕ → MessageData
@@ -99,17 +100,21 @@ abbrev pub told_by : ConfigData → Known → Units
 told_by party known = extensions_by party.signature_algorithms (asks_for_extensions known.kexinit)
 
 -- The first message of the exchange at a server: its answer to the client's share, then the signature of the exchange hash,
--- and NEWKEYS (RFC 4253 sections 8 and 7.3), and what it tells a client that asks.
-abbrev pub answered_by : SuiteData → ConfigData → Known → ExchangeData → Option ResponseData → Reply
-answered_by m party known x None = fails fault.Exchange
-answered_by m party known x (Some answer) =
-    goes (written_message (reply_in known.shares x.host_key x.server_share
-    (m.sign known.algorithms.host_key (secret_of party.host_keys known.algorithms.host_key) (exchange_hash m known.algorithms.kex x)))
-    ∷ written_message NewKeys ∷ told_by party known)
+-- and NEWKEYS (RFC 4253 sections 8 and 7.3), and what it tells a client that asks. Without a signature, or a shared secret, the exchange
+-- fails (profile).
+abbrev pub signed_reply : ConfigData → Known → ExchangeData → Option (List ℕ) → Reply
+signed_reply party known x None = fails fault.Exchange
+signed_reply party known x (Some signature) =
+    goes (written_message (reply_in known.shares x.host_key x.server_share signature) ∷ written_message NewKeys ∷ told_by party known)
 
-unfoldable pub init_reply : SuiteData → Side → ConfigData → Known → MessageData → Reply
-init_reply m role party known message =
-    answered_by m party known (exchange_with m role party known.algorithms known.version known.kexinit (Ok message))
+abbrev pub answered_by : SuiteData → DecisionsData → ConfigData → Known → ExchangeData → Option ResponseData → Reply
+answered_by m d party known x None = fails fault.Exchange
+answered_by m d party known x (Some answer) =
+    signed_reply party known x (signature_by m d 0 known.algorithms.host_key (secret_of party.host_keys known.algorithms.host_key) (exchange_hash m known.algorithms.kex x))
+
+unfoldable pub init_reply : SuiteData → DecisionsData → Side → ConfigData → Known → MessageData → Reply
+init_reply m d role party known message =
+    answered_by m d party known (exchange_with m role party known.algorithms known.version known.kexinit (Ok message))
     (answer_with m role party known.algorithms (Ok message))
 
 -- the name of the service of authentication (RFC 4252 section 4)
@@ -145,23 +150,23 @@ service_reply party service =
     else fails fault.Service
 
 -- SERVICE_ACCEPT at a client: the first attempt of its plan is made (RFC 4252 section 5)
-abbrev pub accept_reply : SuiteData → Known → List ℕ → Reply
-accept_reply m known service =
-    if bytes_eq service userauth then attempt_reply m known.session known.left else fails (fault.Unexpected SSH_MSG_SERVICE_ACCEPT)
+abbrev pub accept_reply : SuiteData → DecisionsData → Known → List ℕ → Reply
+accept_reply m d known service =
+    if bytes_eq service userauth then attempt_reply m d known.session known.left else fails (fault.Unexpected SSH_MSG_SERVICE_ACCEPT)
 
 -- what a message is answered; every other is read and ignored
 unfoldable pub work : Setup → Known → MessageData → Reply
 work setup known (Disconnect reason description language) = record { answers = []; end = Closed reason }
 work setup known (KexInit peer) = kexinit_reply setup.suite setup.role setup.config known peer
-work setup known (KexdhInit e) = init_reply setup.suite setup.role setup.config known (KexdhInit e)
-work setup known (KexEcdhInit client_share) = init_reply setup.suite setup.role setup.config known (KexEcdhInit client_share)
+work setup known (KexdhInit e) = init_reply setup.suite setup.decisions setup.role setup.config known (KexdhInit e)
+work setup known (KexEcdhInit client_share) = init_reply setup.suite setup.decisions setup.role setup.config known (KexEcdhInit client_share)
 work setup known (KexdhReply host_key f signature) = reply_reply setup known (KexdhReply host_key f signature) signature
 work setup known (KexEcdhReply host_key server_share signature) =
     reply_reply setup known (KexEcdhReply host_key server_share signature) signature
 work setup known (ServiceRequest service) = service_reply setup.config service
-work setup known (ServiceAccept service) = accept_reply setup.suite known service
+work setup known (ServiceAccept service) = accept_reply setup.suite setup.decisions known service
 work setup known (UserauthRequest user service method) = request_reply setup.suite setup.decisions setup.config known user service method
-work setup known (UserauthFailure listed partial) = failure_reply setup.suite known listed
+work setup known (UserauthFailure listed partial) = failure_reply setup.suite setup.decisions known listed
 work setup known UserauthSuccess = success_reply known
-work setup known (UserauthPkOk algorithm key) = pk_ok_reply setup.suite known algorithm key
+work setup known (UserauthPkOk algorithm key) = pk_ok_reply setup.suite setup.decisions known algorithm key
 work setup known _ = goes []

@@ -10,8 +10,9 @@ ghost use Rattle.sshcore.specs.EndData.{Failed, Open, by_input, end_data};
 ghost use Rattle.sshcore.specs.EndpointConfig.{config_data, role_of};
 ghost use Rattle.sshcore.specs.EndpointParts.{DecisionsData};
 ghost use Rattle.sshcore.specs.Inputs.{CanRead, EndpointStands};
-ghost use Rattle.sshcore.specs.QuestionsView.{question_data};
-ghost use Rattle.sshcore.specs.Questions.{question_at};
+ghost use Rattle.sshcore.specs.declared.given.Answer.TheVariants as given;
+ghost use Rattle.sshcore.specs.QuestionsView.{answer_data, question_data};
+ghost use Rattle.sshcore.specs.Questions.{Decided, question_at, taken, taken_by};
 ghost use Rattle.sshcore.specs.Keeping.{StillFits};
 ghost use Rattle.sshcore.specs.StateData.{state_data};
 ghost use Rattle.sshcore.specs.Unread.{AnswerSteps, IsAsked, IsIdle, IsTurned};
@@ -21,7 +22,7 @@ use crate::asking_endpoint::AskingEndpoint;
 use crate::asking_input::turn;
 use crate::config::Config;
 use crate::end::{End, Fault};
-use crate::given::{Given, Listener};
+use crate::given::{Answer, Given, Listener};
 use crate::input::Input;
 use crate::question::Question;
 use crate::state::State;
@@ -32,7 +33,8 @@ use sshwire::Memory;
 impl<S: Suite, L: Listener> AskingEndpoint<'_, S, L> {
     /// What is asked: there is a question exactly while the endpoint waits for an answer and is open. Takes no memory.
     ///
-    /// A client asks once, whether a host key is trusted; a server asks of a request or query of authentication.
+    /// A client asks once, whether a host key is trusted; a server asks of a request or query of authentication. Either asks for
+    /// a signature by a key that the suite doesn't hold.
     pub fn question(&self) -> Option<Question<'_>>
         ensures asks { option_map question_data result ≡ asked_by self.now }
         // It is what the packet asks that was read last.
@@ -53,17 +55,52 @@ impl<S: Suite, L: Listener> AskingEndpoint<'_, S, L> {
 
     /// Answers the question, and appends to `out` what is sent to the packet that asked it: by a yes (`allowed`) a client
     /// trusts the host key, and a server takes a request as successful, unless it is signed and the signature, which is
-    /// verified now, is wrong; or the key of a query as one that would do. By a no nothing is verified. Then go on with
-    /// what [`feed`](AskingEndpoint::feed) didn't use.
+    /// verified now, is wrong; or the key of a query as one that would do. By a no nothing is verified. A question for a
+    /// signature is answered by either as by none. Then go on with what [`feed`](AskingEndpoint::feed) didn't use.
     ///
     /// Where nothing is asked the endpoint doesn't change, and nothing is appended. Answers `Memory` where an
     /// allocation failed: the endpoint has then failed, and `out` is unchanged.
     pub fn answer(&mut self, allowed: bool, out: &mut Vec<u8>) -> Result<(), Memory>
-        ensures answered { is_some (asked_by self.old) ≡ true → OnOk result (Answered S.meaning allowed self.old self.new out.old.items out.new.items) }
+        ensures answered { is_some (asked_by self.old) ≡ true → OnOk result (Answered S.meaning (taken_by (asked_by self.old) (Decided allowed)) self.old self.new out.old.items out.new.items) }
         ensures memory { OnErr result ((asking_end self.new ≡ Failed fault.Memory) × (out.new.items ≡ out.old.items) × AskingBreaks S.meaning self.old self.new [] out.old.items out.new.items) }
         // Running out of memory is answered, and never found later.
         ensures kept { OnOk result (asking_end self.new ≡ Failed fault.Memory → asking_end self.old ≡ Failed fault.Memory) }
         // And no other end comes of it than those of what is received: its owner alone cuts it off or disconnects it.
+        ensures owned { OnOk result (by_input (asking_end self.new) ≡ false → asking_end self.old ≡ asking_end self.new) }
+        ensures none { asked_by self.old ≡ None → (result ≡ Ok tt) × (self.new ≡ self.old) × (out.new ≡ out.old) }
+    {
+        self.answer_so(Answer::Decided(allowed), out)
+    }
+
+    /// Answers a question for a signature by one, or by none, and appends to `out` what is sent then. By none a client makes
+    /// the attempt by the method `none` (RFC 4252 section 5.2), which counts as one of its requests, and a server's exchange
+    /// fails (F9). A signature is sent as it is: its bytes begin with the name of its format, as a string (RFC 4253 section
+    /// 6.6); whether it verifies is for the peer to see, and for whoever made it: one by RSA that went wrong may give its key
+    /// away. One of more than 8192 bytes is as none. Any other question is answered by either as by a no.
+    ///
+    /// Where nothing is asked the endpoint doesn't change, and nothing is appended. Answers `Memory` where an
+    /// allocation failed: the endpoint has then failed, and `out` is unchanged.
+    pub fn answer_signature(
+        &mut self,
+        signature: Option<&[u8]>,
+        out: &mut Vec<u8>,
+    ) -> Result<(), Memory>
+        ensures answered { is_some (asked_by self.old) ≡ true → OnOk result (Answered S.meaning (taken_by (asked_by self.old) (answer_data (given.Signed signature.entry))) self.old self.new out.old.items out.new.items) }
+        ensures memory { OnErr result ((asking_end self.new ≡ Failed fault.Memory) × (out.new.items ≡ out.old.items) × AskingBreaks S.meaning self.old self.new [] out.old.items out.new.items) }
+        // Running out of memory is answered, and never found later.
+        ensures kept { OnOk result (asking_end self.new ≡ Failed fault.Memory → asking_end self.old ≡ Failed fault.Memory) }
+        // And no other end comes of it than those of what is received: its owner alone cuts it off or disconnects it.
+        ensures owned { OnOk result (by_input (asking_end self.new) ≡ false → asking_end self.old ≡ asking_end self.new) }
+        ensures none { asked_by self.old ≡ None → (result ≡ Ok tt) × (self.new ≡ self.old) × (out.new ≡ out.old) }
+    {
+        self.answer_so(Answer::Signed(signature), out)
+    }
+
+    /// Answers the question so.
+    fn answer_so(&mut self, answer: Answer<'_>, out: &mut Vec<u8>) -> Result<(), Memory>
+        ensures answered { is_some (asked_by self.old) ≡ true → OnOk result (Answered S.meaning (taken_by (asked_by self.old) (answer_data answer.entry)) self.old self.new out.old.items out.new.items) }
+        ensures memory { OnErr result ((asking_end self.new ≡ Failed fault.Memory) × (out.new.items ≡ out.old.items) × AskingBreaks S.meaning self.old self.new [] out.old.items out.new.items) }
+        ensures kept { OnOk result (asking_end self.new ≡ Failed fault.Memory → asking_end self.old ≡ Failed fault.Memory) }
         ensures owned { OnOk result (by_input (asking_end self.new) ≡ false → asking_end self.old ≡ asking_end self.new) }
         ensures none { asked_by self.old ≡ None → (result ≡ Ok tt) × (self.new ≡ self.old) × (out.new ≡ out.old) }
     {
@@ -80,7 +117,7 @@ impl<S: Suite, L: Listener> AskingEndpoint<'_, S, L> {
             self.suite,
             self.listener,
             &waiting,
-            allowed,
+            answer,
             out,
         );
         match answered {
@@ -101,13 +138,13 @@ fn answer_packet<S: Suite, L: Listener>(
     suite: &S,
     listener: &L,
     waiting: &Waiting,
-    allowed: bool,
+    answer: Answer<'_>,
     out: &mut Vec<u8>,
 ) -> Result<(), Memory>
     requires asked { IsAsked (S.meaning suite.now) (role_of config.now) (config_data config.now) (state_data state.old) input.old (waiting_data waiting.now) }
     requires reads { CanRead (S.meaning suite.now) input.old }
     ensures steps { OnOk result ((added : List ℕ) × (out.new.items ≡ out.old.items ++ added)
-        × AnswerSteps (S.meaning suite.now) (role_of config.now) (config_data config.now) allowed (waiting_data waiting.now) input.old (state_data state.old) input.new (state_data state.new) [] added) }
+        × AnswerSteps (S.meaning suite.now) (role_of config.now) (config_data config.now) (taken (waiting_data waiting.now).question (answer_data answer.entry)) (waiting_data waiting.now) input.old (state_data state.old) input.new (state_data state.new) [] added) }
     ensures reads { OnOk result (IsOngoing (end_data state.new.end) → CanRead (S.meaning suite.now) input.new) }
     ensures keeps { OnOk result (StillFits (S.meaning suite.now) (config_data config.now) (state_data state.old) (state_data state.new)) }
     ensures kept { OnOk result (by_input (end_data state.new.end) ≡ true) }
@@ -117,7 +154,7 @@ fn answer_packet<S: Suite, L: Listener>(
     sshpacket::stream_law();
     sshmsg::numbers_law();
     sshneg::markers_law();
-    let given = Given { allowed, listener };
+    let given = Given { answer, listener };
     let mut sent = Vec::new(state.alloc);
     state.receive(
         config,

@@ -15,7 +15,7 @@ ghost use Rattle.sshcore.specs.Unread.{AskingSteps, Turns};
 ghost use Rattle.sshcore.specs.WaitingView.{waiting_of};
 
 use crate::config::Config;
-use crate::given::{Given, Listener};
+use crate::given::{Answer, Given, Listener};
 use crate::input::{Input, Received, fail_packet, receive_lines};
 use crate::notice::{line_of, tell_lines};
 use crate::state::State;
@@ -63,7 +63,7 @@ impl Input {
                 let begun = line_of(reader.unfinished());
                 let received = receive_lines(reader, state, piece)?;
                 let told = Given {
-                    allowed: false,
+                    answer: Answer::Decided(false),
                     listener,
                 };
                 tell_lines(&told, begun, piece.get(..received.used()).unwrap_or(&[]));
@@ -132,7 +132,7 @@ fn ask_packets<S: Suite, L: Listener>(
                 }
                 None => {
                     let given = Given {
-                        allowed: false,
+                        answer: Answer::Decided(false),
                         listener,
                     };
                     state.receive(config, suite, &given, payload, seq, sent)?;

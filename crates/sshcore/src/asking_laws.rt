@@ -1,5 +1,6 @@
 //! What the layers above may rest on: what endpoints ask, and which decisions give the answers.
 
+ghost use Rattle.std.specs.List.{AllByRecursion};
 ghost use Rattle.std.specs.Prelude.{◌≡◌, ◌≢◌, ℕ, false, true, List, [], ◌∷◌, ◌++◌, map, None, Some};
 ghost use Rattle.sshcore.specs.declared.end.Fault.TheVariants as fault;
 ghost use Rattle.sshcore.specs.Asking.{AskingAfter, IsSameAsking, asked_by, asking_end};
@@ -17,7 +18,7 @@ ghost use Rattle.sshpacket.specs.Places.{IsPrefix};
 ghost use Rattle.sshpacket.specs.Stream.{Units};
 ghost use Rattle.sshpacket.specs.Suite.{SuiteData};
 ghost use Rattle.sshneg.specs.declared.side.Side.{Side};
-ghost use Rattle.sshcore.specs.AskedQuestions.{AnsweredData, ComesLater, GiveAll, IsAskedOnce, asked, question_after, questions_at};
+ghost use Rattle.sshcore.specs.AskedQuestions.{AnsweredData, ComesLater, GiveAll, IsAskedOnce, IsTaken, asked, question_after, questions_at};
 ghost use Rattle.sshcore.specs.EndpointParts.{ConfigData, DecisionsData, Setup, setup_with};
 ghost use Rattle.sshcore.specs.Questions.{QuestionData, question_at};
 ghost use Rattle.sshcore.specs.Standing.{Sits};
@@ -37,7 +38,7 @@ pub fn questions_law()
     // A host key is asked at most once, and the numbers of requests rise.
     ensures once { (setup : Setup) (version : List ℕ) (before : Units) → IsAskedOnce (questions_at setup version before) }
     // Whatever was answered to questions that are asked once, some decisions give these answers.
-    ensures answers { (answers : List AnsweredData) → IsAskedOnce (map (λ (a : AnsweredData). a.question) answers) → (d : DecisionsData) × GiveAll d answers }
+    ensures answers { (answers : List AnsweredData) → IsAskedOnce (map (λ (a : AnsweredData). a.question) answers) → AllByRecursion IsTaken answers → (d : DecisionsData) × GiveAll d answers }
     // What payloads ask is the same under any decisions.
     ensures same { (m : SuiteData) (role : Side) (party : ConfigData) (d e : DecisionsData) (version : List ℕ) (before : Units)
         → questions_at (setup_with m d role party) version before ≡ questions_at (setup_with m e role party) version before }

@@ -16,7 +16,9 @@ ghost use Rattle.sshcore.specs.Made.{IsMade};
 ghost use Rattle.sshcore.specs.Plan.{confirmed, first_made};
 
 use crate::config_parts::{Attempt, Credential};
+use crate::decisions::Decisions;
 use crate::payloads::payload_from;
+use crate::signing::{SigningKey, signature_by};
 use sshmsg::{Message, Method};
 use sshneg::signed_request;
 use sshpacket::Suite;
@@ -24,17 +26,19 @@ use sshwire::Memory;
 use std::alloc::Global;
 
 /// The payload of the request that an attempt makes next (RFC 4252 section 5), in the session of this
-/// identifier: its query, if it asks one that wasn't confirmed (section 7), else itself.
-pub(crate) fn next_payload<S: Suite>(
+/// identifier, after which so many attempts are left: its query, if it asks one that wasn't confirmed (section 7), else itself.
+pub(crate) fn next_payload<S: Suite, D: Decisions>(
     alloc: Global,
     suite: &S,
+    decisions: &D,
+    number: usize,
     session: &[u8],
     confirmed: bool,
     attempt: &Attempt,
 ) -> Result<Vec<u8>, Memory>
     requires attempt { IsAttempt (attempt_data attempt.now) }
     requires session { length session.now ≤ DIGEST_LIMIT }
-    ensures { IfOk result (λ made. IsMade (request_of (S.meaning suite.now) session.now (first_made confirmed (attempt_data attempt.now))) made.items) }
+    ensures { IfOk result (λ made. IsMade (request_of (S.meaning suite.now) (D.policy decisions.now) number session.now (first_made confirmed (attempt_data attempt.now))) made.items) }
 {
     match &attempt.credential {
         Credential::None => method_payload(alloc, attempt, Method::None),
@@ -49,7 +53,16 @@ pub(crate) fn next_payload<S: Suite>(
             if *ask && !confirmed {
                 query_payload(alloc, suite, attempt, algorithm, private_key)
             } else {
-                signed_payload(alloc, suite, session, attempt, algorithm, private_key)
+                signed_payload(
+                    alloc,
+                    suite,
+                    decisions,
+                    number,
+                    session,
+                    attempt,
+                    algorithm,
+                    private_key,
+                )
             }
         }
     }
@@ -67,7 +80,7 @@ fn query_payload<S: Suite>(
     requires named { IsName algorithm.now }
     requires key { length private_key.now ≤ PRIVATE_KEY_LIMIT }
     ensures { IfOk result (λ made. IsMade (written_message (content.UserauthRequest (attempt_data attempt.now).user (attempt_data attempt.now).service
-        (method_by (S.meaning suite.now) [] [] [] (ByKey algorithm.now private_key.now true)))) made.items) }
+        (content.PublicKeyQuery algorithm.now ((S.meaning suite.now).blob algorithm.now private_key.now)))) made.items) }
 {
     let key = suite.blob(alloc, algorithm, private_key)?;
     let method = Method::PublicKeyQuery {
@@ -78,10 +91,12 @@ fn query_payload<S: Suite>(
 }
 
 /// The payload of the request that is signed by a key, in the session of this identifier (RFC 4252
-/// section 7).
-fn signed_payload<S: Suite>(
+/// section 7); where no signature is made, of one by `none`.
+fn signed_payload<S: Suite, D: Decisions>(
     alloc: Global,
     suite: &S,
+    decisions: &D,
+    number: usize,
     session: &[u8],
     attempt: &Attempt,
     algorithm: &str,
@@ -92,19 +107,28 @@ fn signed_payload<S: Suite>(
     requires key { length private_key.now ≤ PRIVATE_KEY_LIMIT }
     requires session { length session.now ≤ DIGEST_LIMIT }
     ensures { IfOk result (λ made. IsMade (written_message (content.UserauthRequest (attempt_data attempt.now).user (attempt_data attempt.now).service
-        (method_by (S.meaning suite.now) session.now (attempt_data attempt.now).user (attempt_data attempt.now).service (ByKey algorithm.now private_key.now false)))) made.items) }
+        (method_by (S.meaning suite.now) (D.policy decisions.now) number session.now (attempt_data attempt.now).user (attempt_data attempt.now).service (ByKey algorithm.now private_key.now false)))) made.items) }
 {
     sshneg::exchange_law();
     let key = suite.blob(alloc, algorithm, private_key)?;
     let service = attempt.service.as_bytes();
     let input = signed_request(alloc, session, &attempt.user, service, algorithm, &key)?;
-    let signature = suite.sign(alloc, algorithm, private_key, &input)?;
-    let method = Method::PublicKey {
-        algorithm: algorithm.as_bytes(),
-        key: &key,
-        signature: &signature,
+    let signing = SigningKey {
+        algorithm,
+        private_key,
+        blob: &key,
     };
-    method_payload(alloc, attempt, method)
+    match signature_by(alloc, suite, decisions, number, signing, &input)? {
+        None => method_payload(alloc, attempt, Method::None),
+        Some(signature) => {
+            let method = Method::PublicKey {
+                algorithm: algorithm.as_bytes(),
+                key: &key,
+                signature: &signature,
+            };
+            method_payload(alloc, attempt, method)
+        }
+    }
 }
 
 /// Whether it was asked if this key would do.

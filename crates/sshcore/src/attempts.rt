@@ -1,22 +1,23 @@
 //! Phase auth at a client: the attempts of its plan and what the server answers (RFC 4252).
 
-ghost use Rattle.std.specs.Prelude.{◌≡◌, [], true, false, Bool, IfOk, OnOk, if◌then◌else◌, map};
+ghost use Rattle.std.specs.Prelude.{◌≡◌, [], true, false, Bool, IfOk, OnOk, map};
 ghost use Rattle.sshneg.specs.ChoiceReadings.{is_in};
 ghost use Rattle.sshpacket.specs.KeysData.{KeysData};
 ghost use Rattle.sshcore.specs.declared.end.Fault.TheVariants as fault;
 ghost use Rattle.sshcore.specs.declared.table.Phase.TheVariants as phase;
-ghost use Rattle.sshcore.specs.Attempts.{attempt_reply, failure_reply, is_asked, pk_ok_reply, success_reply};
+ghost use Rattle.sshcore.specs.Attempts.{answers_query, attempt_reply, failure_reply, pk_ok_reply, success_reply};
 ghost use Rattle.sshcore.specs.Authenticating.{confirmed_attempt, failed_attempt};
 ghost use Rattle.sshcore.specs.Brings.{Gives, IsOngoing, received_one};
 ghost use Rattle.sshcore.specs.EndpointConfig.{config_data};
 ghost use Rattle.sshcore.specs.ConfigView.{attempt_data, credential_data};
-ghost use Rattle.sshcore.specs.EndData.{Failed, Open, by_input, end_data, fails};
+ghost use Rattle.sshcore.specs.EndData.{Failed, Open, by_input, end_data};
 ghost use Rattle.sshcore.specs.StateData.{state_data};
 ghost use Rattle.sshcore.specs.Plan.{confirmed, next_after, next_listed, proving_name};
 
 use crate::attempt_payloads::{is_asked, next_payload};
 use crate::config::Config;
 use crate::config_parts::Attempt;
+use crate::decisions::Decisions;
 use crate::end::Fault;
 use crate::state::State;
 use sshmsg::{SSH_MSG_USERAUTH_PK_OK, SSH_MSG_USERAUTH_SUCCESS};
@@ -26,25 +27,28 @@ use sshwire::{Memory, NameList};
 impl State<'_> {
     /// Makes the first of the attempts that are left (RFC 4252 section 5); fails as `NoMoreMethods`
     /// where there is none.
-    pub(crate) fn make_attempt<S: Suite>(
+    pub(crate) fn make_attempt<S: Suite, D: Decisions>(
         &mut self,
         config: &Config<'_>,
         suite: &S,
+        decisions: &D,
         sent: &mut Vec<u8>,
     ) -> Result<(), Memory>
         requires open { end_data self.old.end ≡ Open }
         ensures gives { OnOk result ((strict : Bool) (next : KeysData)
             → Gives (S.meaning suite.now) (config_data config.now).seed strict next (state_data self.old) (state_data self.new) sent.old.items sent.new.items
-            (attempt_reply (S.meaning suite.now) (state_data self.old).known.session (state_data self.old).known.left)) }
+            (attempt_reply (S.meaning suite.now) (D.policy decisions.now) (state_data self.old).known.session (state_data self.old).known.left)) }
         ensures stays { OnOk result (state_data self.new ≡ record (state_data self.old) { end = (state_data self.new).end; sending = (state_data self.new).sending }) }
         ensures kept { OnOk result (by_input (end_data self.new.end) ≡ true) }
     {
-        match self.left.first() {
+        match self.left.split_first() {
             None => self.fail(config, suite, Fault::NoMoreMethods, sent),
-            Some(attempt) => {
+            Some((attempt, later)) => {
                 let request = next_payload(
                     self.alloc,
                     suite,
+                    decisions,
+                    later.len(),
                     &self.session,
                     self.confirmed,
                     attempt,
@@ -56,17 +60,18 @@ impl State<'_> {
 
     /// A client receives FAILURE: it makes the next attempt whose method is listed; those that it skips
     /// aren't made later (RFC 4252 section 5.1). Fails as `NoMoreMethods` where none is left.
-    pub(crate) fn receive_failure<S: Suite>(
+    pub(crate) fn receive_failure<S: Suite, D: Decisions>(
         &mut self,
         config: &Config<'_>,
         suite: &S,
+        decisions: &D,
         methods: &NameList,
         sent: &mut Vec<u8>,
     ) -> Result<(), Memory>
         requires open { end_data self.old.end ≡ Open }
         ensures gives { OnOk result ((strict : Bool) (next : KeysData)
             → Gives (S.meaning suite.now) (config_data config.now).seed strict next (state_data self.old) (state_data self.new) sent.old.items sent.new.items
-            (failure_reply (S.meaning suite.now) (state_data self.old).known methods.now)) }
+            (failure_reply (S.meaning suite.now) (D.policy decisions.now) (state_data self.old).known methods.now)) }
         ensures stays { OnOk result (state_data self.new ≡ record (state_data self.old) {
           end = (state_data self.new).end;
           known = failed_attempt (state_data self.old).known methods.now;
@@ -77,15 +82,16 @@ impl State<'_> {
         self.left = next_attempts(self.left, methods);
         self.confirmed = false;
         self.first = false;
-        self.make_attempt(config, suite, sent)
+        self.make_attempt(config, suite, decisions, sent)
     }
 
     /// A client receives PK_OK: the attempt of the query is made itself, if the key is the one that was asked
     /// about; else it is unexpected (RFC 4252 section 7).
-    pub(crate) fn receive_pk_ok<S: Suite>(
+    pub(crate) fn receive_pk_ok<S: Suite, D: Decisions>(
         &mut self,
         config: &Config<'_>,
         suite: &S,
+        decisions: &D,
         algorithm: &[u8],
         key: &[u8],
         sent: &mut Vec<u8>,
@@ -93,7 +99,7 @@ impl State<'_> {
         requires open { end_data self.old.end ≡ Open }
         ensures gives { OnOk result ((strict : Bool) (next : KeysData)
             → Gives (S.meaning suite.now) (config_data config.now).seed strict next (state_data self.old) (state_data self.new) sent.old.items sent.new.items
-            (pk_ok_reply (S.meaning suite.now) (state_data self.old).known algorithm.now key.now)) }
+            (pk_ok_reply (S.meaning suite.now) (D.policy decisions.now) (state_data self.old).known algorithm.now key.now)) }
         ensures stays { OnOk result (IsOngoing (state_data self.new).end → state_data self.new ≡ record (state_data self.old) {
           end = (state_data self.new).end;
           known = confirmed_attempt (state_data self.old).known;
@@ -107,14 +113,17 @@ impl State<'_> {
         }
         self.confirmed = true;
         self.first = false;
-        self.make_attempt(config, suite, sent)
+        self.make_attempt(config, suite, decisions, sent)
     }
 
     /// Whether the query that waits for its answer is about this key.
-    fn is_about<S: Suite>(&self, suite: &S, algorithm: &[u8], key: &[u8]) -> Result<bool, Memory>
-        ensures { IfOk result (λ about.
-            (if about then attempt_reply (S.meaning suite.now) (state_data self.now).known.session (confirmed (state_data self.now).known.left) else fails (fault.Unexpected SSH_MSG_USERAUTH_PK_OK))
-            ≡ pk_ok_reply (S.meaning suite.now) (state_data self.now).known algorithm.now key.now) }
+    pub(crate) fn is_about<S: Suite>(
+        &self,
+        suite: &S,
+        algorithm: &[u8],
+        key: &[u8],
+    ) -> Result<bool, Memory>
+        ensures { IfOk result (λ about. about ≡ answers_query (S.meaning suite.now) algorithm.now key.now (state_data self.now).known.left) }
     {
         match self.left.first() {
             None => Ok(false),
@@ -155,7 +164,7 @@ impl State<'_> {
 }
 
 /// The attempts after the first, from the next one on whose method is listed.
-fn next_attempts<'a>(attempts: &'a [Attempt], listed: &NameList) -> &'a [Attempt]
+pub(crate) fn next_attempts<'a>(attempts: &'a [Attempt], listed: &NameList) -> &'a [Attempt]
     ensures { map attempt_data result.now ≡ next_after listed.now (map attempt_data attempts.now) }
 {
     match attempts.split_first() {

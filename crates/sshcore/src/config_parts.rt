@@ -47,7 +47,8 @@ pub enum Credential {
     PublicKey {
         /// The name of the key's algorithm.
         algorithm: String,
-        /// The private key as the suite has it, at most 8192 bytes.
+        /// The private key as the suite has it, at most 8192 bytes; or, of a key that the suite doesn't hold, its public
+        /// key, which is sent to the peer ([`Suite::holds`](sshpacket::Suite::holds)).
         private_key: Vec<u8>,
         /// Whether a query comes first: the client then signs by this key only where the server answers
         /// that it would do (RFC 4252 section 7).
@@ -97,7 +98,8 @@ pub struct Attempt {
 pub struct HostKey {
     /// The name of its algorithm.
     pub algorithm: String,
-    /// The private key as the suite has it, at most 8192 bytes.
+    /// The private key as the suite has it, at most 8192 bytes; or, of a key that the suite doesn't hold, its public key,
+    /// which is sent to the peer ([`Suite::holds`](sshpacket::Suite::holds)).
     pub private_key: Vec<u8>,
 }
 

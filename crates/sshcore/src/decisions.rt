@@ -1,10 +1,12 @@
 //! What whoever runs an endpoint decides.
 
-ghost use Rattle.std.specs.Prelude.{◌≡◌};
+ghost use Rattle.std.specs.Prelude.{◌≡◌, IfOk, option_map};
 ghost use Rattle.sshcore.specs.EndpointParts.{DecisionsData};
 ghost use Rattle.sshcore.specs.EndpointPartsView.{proof_data};
 
 use crate::notice::Notice;
+use sshwire::Memory;
+use std::alloc::Global;
 
 /// What a request claims of its user (RFC 4252), or the key that a query asks about.
 ///
@@ -49,6 +51,20 @@ pub trait Decisions {
     /// methods the server lists: say no to `Proof::None` where nobody is accepted without a proof.
     fn user(&self, request_number: u32, user: &str, service: &str, proof: &Proof<'_>) -> bool
         ensures { result ≡ (policy self.now).user request_number user.now service.now (proof_data proof.now) };
+
+    /// A signature of the input by the key of this algorithm and blob, which the suite doesn't hold (RFC 4252 section 7, RFC
+    /// 4253 section 8), with the name of its format in front (RFC 4253 section 6.6); none where none is made. A client asks
+    /// for that of an attempt, with the number of attempts that are left of its plan after it, by which two equal attempts
+    /// are two questions; a server for that of its exchange, with the number 0. One of more than 8192 bytes is as none.
+    fn signature(
+        &self,
+        alloc: Global,
+        number: usize,
+        algorithm: &str,
+        blob: &[u8],
+        input: &[u8],
+    ) -> Result<Option<Vec<u8>>, Memory>
+        ensures { IfOk result (λ o. option_map (λ v. v.items) o ≡ (policy self.now).signature number algorithm.now blob.now input.now) };
 
     /// Is told what the peer tells people, by a message before the endpoint answers that, or by a line before the
     /// version line. It can't change what is answered. Does nothing, unless whoever decides has a body of its own.

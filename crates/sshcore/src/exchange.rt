@@ -11,14 +11,16 @@ ghost use Rattle.sshcore.specs.Brings.{Gives};
 ghost use Rattle.sshcore.specs.EndpointConfig.{config_data, role_of};
 ghost use Rattle.sshcore.specs.EndData.{Failed, Open, by_input, end_data, goes};
 ghost use Rattle.sshcore.specs.Exchange.{share_read};
-ghost use Rattle.sshcore.specs.Exchanged.{AnswersInit, HasForm, IsSigned, ReceivesExchange};
+ghost use Rattle.sshcore.specs.Exchanged.{AnswersInit, HasForm, ReceivesExchange, Signs};
 ghost use Rattle.sshcore.specs.StateData.{state_data, with_exchange};
 ghost use Rattle.sshcore.specs.History.{FitsPacket};
 ghost use Rattle.sshcore.specs.Work.{init_reply, told_by};
 
 use crate::config::Config;
+use crate::decisions::Decisions;
 use crate::end::Fault;
 use crate::payloads::{extensions_payload, reply_payload};
+use crate::signing::{SigningKey, signature_by};
 use crate::state::State;
 use crate::table::Phase;
 use sshneg::Exchange;
@@ -62,10 +64,11 @@ impl State<'_> {
 
     /// A server receives the client's share: it answers with its own and the signature of the exchange
     /// hash, then with NEWKEYS. Fails as `Exchange` where the suite gives no shared secret.
-    pub(crate) fn receive_init<S: Suite>(
+    pub(crate) fn receive_init<S: Suite, D: Decisions>(
         &mut self,
         config: &Config<'_>,
         suite: &S,
+        decisions: &D,
         share: &[u8],
         sent: &mut Vec<u8>,
     ) -> Result<(), Memory>
@@ -75,21 +78,23 @@ impl State<'_> {
         requires short { length share.now ≤ PACKET_LIMIT }
         ensures receives { OnOk result ((message : MessageData) → share_read (Ok message) ≡ share.now → HasForm (S.meaning suite.now) (state_data self.old)
             → ReceivesExchange (S.meaning suite.now) Server (config_data config.now) (state_data self.old) (state_data self.new) sent.old.items sent.new.items message
-            (init_reply (S.meaning suite.now) Server (config_data config.now) (state_data self.old).known message)) }
+            (init_reply (S.meaning suite.now) (D.policy decisions.now) Server (config_data config.now) (state_data self.old).known message)) }
         ensures kept { OnOk result (by_input (end_data self.new.end) ≡ true) }
     {
         match self.respond(config, suite, share)? {
             None => self.fail(config, suite, Fault::Exchange, sent),
             Some(response) => {
                 answer_law(config, suite);
-                let signed = self.sign(config, suite, share, &response)?;
-                self.answer_init(config, suite, &response.shared, signed, sent)
+                match self.sign(config, suite, decisions, share, &response)? {
+                    None => self.fail(config, suite, Fault::Exchange, sent),
+                    Some(signed) => self.answer_init(config, suite, &response.shared, signed, sent),
+                }
             }
         }
     }
 
     /// The server's share and the shared secret.
-    fn respond<S: Suite>(
+    pub(crate) fn respond<S: Suite>(
         &self,
         config: &Config<'_>,
         suite: &S,
@@ -105,18 +110,19 @@ impl State<'_> {
         suite.respond(self.alloc, algorithms.kex(), random, share)
     }
 
-    /// The exchange hash, and the message that has its signature.
-    fn sign<S: Suite>(
+    /// The exchange hash, and the message that has its signature, where one is made.
+    fn sign<S: Suite, D: Decisions>(
         &self,
         config: &Config<'_>,
         suite: &S,
+        decisions: &D,
         share: &[u8],
         response: &Response,
-    ) -> Result<Signed, Memory>
+    ) -> Result<Option<Signed>, Memory>
         requires chosen { is_some self.now.algorithms ≡ true }
         requires short { length share.now ≤ PACKET_LIMIT }
         requires answer { (S.meaning suite.now).respond (state_data self.now).known.algorithms.kex (config_data config.now).random share.now ≡ Some (response_data response.now) }
-        ensures { IfOk result (λ signed. IsSigned (S.meaning suite.now) (role_of config.now) (config_data config.now) (state_data self.now).known share.now (response_data response.now) signed.hash.items signed.host_key.items signed.reply.items) }
+        ensures { IfOk result (λ o. Signs (S.meaning suite.now) (D.policy decisions.now) (role_of config.now) (config_data config.now) (state_data self.now).known share.now (response_data response.now) o) }
     {
         answer_law(config, suite);
         let algorithms = self.algorithms.as_ref().unwrap();
@@ -129,14 +135,21 @@ impl State<'_> {
             shared: &response.shared,
         };
         let hash = self.hash(config, suite, &shares)?;
-        let signature = suite.sign(self.alloc, algorithms.host_key(), secret, &hash)?;
+        let key = SigningKey {
+            algorithm: algorithms.host_key(),
+            private_key: secret,
+            blob: &host_key,
+        };
+        let Some(signature) = signature_by(self.alloc, suite, decisions, 0, key, &hash)? else {
+            return Ok(None);
+        };
         let form = suite.share_form(algorithms.kex());
         let reply = reply_payload(self.alloc, form, &host_key, &response.share, &signature)?;
-        Ok(Signed {
+        Ok(Some(Signed {
             hash,
             host_key,
             reply,
-        })
+        }))
     }
 
     /// Sends the answer, NEWKEYS and what a client that asks is told, and stands after the exchange.
@@ -211,7 +224,7 @@ impl State<'_> {
 }
 
 /// The law of a server's answer: its share has the method's form, and the shared secret is short.
-fn answer_law<S: Suite>(config: &Config<'_>, suite: &S)
+pub(crate) fn answer_law<S: Suite>(config: &Config<'_>, suite: &S)
     ensures share { (kex share : List ℕ) (r : ResponseData) → (S.meaning suite.now).respond kex (config_data config.now).random share ≡ Some r
         → FitsShare ((S.meaning suite.now).share_form kex) r.share }
     ensures shared { (kex share : List ℕ) (r : ResponseData) → (S.meaning suite.now).respond kex (config_data config.now).random share ≡ Some r

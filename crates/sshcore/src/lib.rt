@@ -66,6 +66,7 @@ mod sending;
 mod server_config;
 mod service;
 mod session;
+mod signing;
 mod state;
 mod suite_fault;
 mod suite_judge;

@@ -30,6 +30,18 @@ pub enum Question<'q> {
         /// What the request claims.
         proof: Proof<'q>,
     },
+    /// A signature by a key that the suite doesn't hold: of a client's request (RFC 4252 section 7), or of the exchange hash at a
+    /// server (RFC 4253 section 8). Answered by [`answer_signature`](crate::AskingEndpoint::answer_signature).
+    Signature {
+        /// How many attempts of a client's plan are left after this one; at a server 0.
+        number: usize,
+        /// The name of the algorithm.
+        algorithm: &'q str,
+        /// The public key.
+        blob: &'q [u8],
+        /// What is to be signed.
+        input: &'q [u8],
+    },
 }
 
 /// A question that is kept until it is answered.
@@ -44,6 +56,12 @@ pub(crate) enum Asked {
         user: String,
         service: String,
         proof: AskedProof,
+    },
+    Signature {
+        number: usize,
+        algorithm: String,
+        blob: Vec<u8>,
+        input: Vec<u8>,
     },
 }
 
@@ -75,6 +93,17 @@ impl Asked {
                 user,
                 service,
                 proof: proof.proof(),
+            },
+            Asked::Signature {
+                number,
+                algorithm,
+                blob,
+                input,
+            } => Question::Signature {
+                number: *number,
+                algorithm,
+                blob,
+                input,
             },
         }
     }

@@ -12,6 +12,7 @@ ghost use Rattle.sshcore.specs.StateData.{state_data};
 ghost use Rattle.sshcore.specs.Work.{accept_reply, banner_by, service_reply};
 
 use crate::config::Config;
+use crate::decisions::Decisions;
 use crate::end::Fault;
 use crate::payloads::USERAUTH;
 use crate::state::State;
@@ -79,10 +80,11 @@ impl State<'_> {
 
     /// A client is told that the service is accepted: it makes the first attempt of its plan; where the
     /// service isn't `ssh-userauth` it fails as `Unexpected(6)`.
-    pub(crate) fn receive_service_accept<S: Suite>(
+    pub(crate) fn receive_service_accept<S: Suite, D: Decisions>(
         &mut self,
         config: &Config<'_>,
         suite: &S,
+        decisions: &D,
         service: &[u8],
         sent: &mut Vec<u8>,
     ) -> Result<(), Memory>
@@ -90,7 +92,7 @@ impl State<'_> {
         requires at { self.old.phase ≡ phase.Service }
         ensures gives { OnOk result ((strict : Bool) (next : KeysData)
             → Gives (S.meaning suite.now) (config_data config.now).seed strict next (state_data self.old) (state_data self.new) sent.old.items sent.new.items
-            (accept_reply (S.meaning suite.now) (state_data self.old).known service.now)) }
+            (accept_reply (S.meaning suite.now) (D.policy decisions.now) (state_data self.old).known service.now)) }
         ensures carries { OnOk result ((state_data self.new).carried ≡ (state_data self.old).carried) }
         ensures stands { OnOk result (IsOngoing (state_data self.new).end
             → StandsAt (state_data self.new) phase.Auth (state_data self.old).guess (received_one (state_data self.old).known)) }
@@ -102,6 +104,6 @@ impl State<'_> {
         }
         self.phase = Phase::Auth;
         self.first = false;
-        self.make_attempt(config, suite, sent)
+        self.make_attempt(config, suite, decisions, sent)
     }
 }

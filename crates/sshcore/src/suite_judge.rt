@@ -10,7 +10,7 @@ ghost use Rattle.sshcore.specs.declared.suite_fault.AlgorithmList.TheVariants as
 ghost use Rattle.sshcore.specs.ConfigParts.{HostKeyData, key_algorithms};
 ghost use Rattle.sshcore.specs.ConfigRules.{HasShortKey, IsAttempt, IsNamed};
 ghost use Rattle.sshcore.specs.ConfigView.{attempt_data, credential_data, host_key_data};
-ghost use Rattle.sshcore.specs.SuiteFit.{IsFit, client_asked, has_algorithm, host_keys_asked, key_asked, named_in, plan_asked, server_asked, suite_fault_data, suite_refusal};
+ghost use Rattle.sshcore.specs.SuiteFit.{IsFit, client_asked, client_names, has_algorithm, host_keys_asked, key_asked, named_in, plan_asked, server_asked, server_names, suite_fault_data, suite_refusal};
 
 use crate::client_config::ClientConfig;
 use crate::config_parts::{Attempt, Credential, HostKey, SideParts};
@@ -30,6 +30,23 @@ impl ClientConfig {
         ensures fit { IfOk result (λ _. IsFit (S.meaning suite.now) (S.inventory suite.now) (client_asked self.now)) }
         ensures unfit { IfErr result (λ _. IsFit (S.meaning suite.now) (S.inventory suite.now) (client_asked self.now) → ⊥) }
     {
+        match self.judge_names(suite) {
+            Err(fault) => Err(fault),
+            Ok(()) => match unheld_attempt(suite, &self.parts().plan) {
+                Some(fault) => Err(fault),
+                None => Ok(()),
+            },
+        }
+    }
+
+    /// Judges the names of this config over a suite as [`judge`](ClientConfig::judge) does, and no private keys: those that the
+    /// suite doesn't hold stand for keys that are held elsewhere. It is for who answers questions for signatures
+    /// ([`answer_signature`](crate::AskingEndpoint::answer_signature)). Takes no memory.
+    pub fn judge_names<'a, S: Inventory>(&'a self, suite: &S) -> Result<(), SuiteFault<'a>>
+        ensures refusal { option_map suite_fault_data (result_err result) ≡ suite_refusal (S.meaning suite.now) (S.inventory suite.now) (client_names self.now) }
+        ensures fit { IfOk result (λ _. IsFit (S.meaning suite.now) (S.inventory suite.now) (client_names self.now)) }
+        ensures unfit { IfErr result (λ _. IsFit (S.meaning suite.now) (S.inventory suite.now) (client_names self.now) → ⊥) }
+    {
         let parts = self.parts();
         let host_keys = unknown_name(
             suite,
@@ -38,10 +55,7 @@ impl ClientConfig {
         );
         match unknown_algorithm(suite, &parts.side, host_keys) {
             Some(fault) => Err(fault),
-            None => match unheld_attempt(suite, &parts.plan) {
-                Some(fault) => Err(fault),
-                None => Ok(()),
-            },
+            None => Ok(()),
         }
     }
 }
@@ -58,14 +72,28 @@ impl ServerConfig {
         ensures fit { IfOk result (λ _. IsFit (S.meaning suite.now) (S.inventory suite.now) (server_asked self.now)) }
         ensures unfit { IfErr result (λ _. IsFit (S.meaning suite.now) (S.inventory suite.now) (server_asked self.now) → ⊥) }
     {
+        match self.judge_names(suite) {
+            Err(fault) => Err(fault),
+            Ok(()) => match unheld_host_key(suite, &self.parts().host_keys) {
+                Some(fault) => Err(fault),
+                None => Ok(()),
+            },
+        }
+    }
+
+    /// Judges the names of this config over a suite as [`judge`](ServerConfig::judge) does, and no private keys: those that the
+    /// suite doesn't hold stand for keys that are held elsewhere. It is for who answers questions for signatures
+    /// ([`answer_signature`](crate::AskingEndpoint::answer_signature)). Takes no memory.
+    pub fn judge_names<'a, S: Inventory>(&'a self, suite: &S) -> Result<(), SuiteFault<'a>>
+        ensures refusal { option_map suite_fault_data (result_err result) ≡ suite_refusal (S.meaning suite.now) (S.inventory suite.now) (server_names self.now) }
+        ensures fit { IfOk result (λ _. IsFit (S.meaning suite.now) (S.inventory suite.now) (server_names self.now)) }
+        ensures unfit { IfErr result (λ _. IsFit (S.meaning suite.now) (S.inventory suite.now) (server_names self.now) → ⊥) }
+    {
         let parts = self.parts();
         let host_keys = unknown_host_key(suite, &parts.host_keys);
         match unknown_algorithm(suite, &parts.side, host_keys) {
             Some(fault) => Err(fault),
-            None => match unheld_host_key(suite, &parts.host_keys) {
-                Some(fault) => Err(fault),
-                None => Ok(()),
-            },
+            None => Ok(()),
         }
     }
 }

@@ -72,7 +72,7 @@ impl State<'_> {
                 self.receive_service_request(config, suite, service, sent)
             }
             Message::ServiceAccept { service } => {
-                self.receive_service_accept(config, suite, service, sent)
+                self.receive_service_accept(config, suite, decisions, service, sent)
             }
             Message::UserauthRequest { .. }
             | Message::UserauthFailure { .. }
@@ -111,9 +111,11 @@ impl State<'_> {
         sshmsg::numbers_law();
         sshmsg::lengths_law();
         match message {
-            Message::KexdhInit { e } => self.receive_init(config, suite, e.body(), sent),
+            Message::KexdhInit { e } => {
+                self.receive_init(config, suite, decisions, e.body(), sent)
+            }
             Message::KexEcdhInit { client_share } => {
-                self.receive_init(config, suite, client_share, sent)
+                self.receive_init(config, suite, decisions, client_share, sent)
             }
             Message::KexdhReply {
                 host_key,
@@ -173,11 +175,11 @@ impl State<'_> {
                 method,
             } => self.receive_request(config, suite, decisions, user, service, method, sent),
             Message::UserauthFailure { methods, .. } => {
-                self.receive_failure(config, suite, methods, sent)
+                self.receive_failure(config, suite, decisions, methods, sent)
             }
             Message::UserauthSuccess => self.receive_success(config, suite, sent),
             Message::UserauthPkOk { algorithm, key } => {
-                self.receive_pk_ok(config, suite, algorithm, key, sent)
+                self.receive_pk_ok(config, suite, decisions, algorithm, key, sent)
             }
             _ => unreachable!(),
         }

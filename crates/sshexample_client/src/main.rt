@@ -16,6 +16,7 @@ use sshcore::{
     SideParts,
 };
 use sshsuite::DeployedSuite;
+use sshwire::Memory;
 use std::alloc::Global;
 use std::cell::Cell;
 use std::env;
@@ -32,13 +33,14 @@ struct HostKeys {
 }
 
 impl Decisions for HostKeys {
-    ghost use Rattle.std.specs.Prelude.{false};
+    ghost use Rattle.std.specs.Prelude.{None, false};
     ghost use Rattle.std.specs.Str.{bytes_eq};
     ghost use Rattle.sha2.specs.Sha256.{sha256};
 
     ghost policy = { λ keys. record {
       host_key = λ algorithm blob. bytes_eq keys.trusted.items (sha256 blob);
       user = λ number user service proof. false;
+      signature = λ number algorithm blob input. None;
     } };
 
     fn host_key(&self, _algorithm: &str, blob: &[u8]) -> bool {
@@ -49,6 +51,17 @@ impl Decisions for HostKeys {
 
     fn user(&self, _request_number: u32, _user: &str, _service: &str, _proof: &Proof<'_>) -> bool {
         false // a server asks this
+    }
+
+    fn signature(
+        &self,
+        _alloc: Global,
+        _number: usize,
+        _algorithm: &str,
+        _blob: &[u8],
+        _input: &[u8],
+    ) -> Result<Option<Vec<u8>>, Memory> {
+        Ok(None) // the suite holds all keys
     }
 }
 

@@ -1,4 +1,4 @@
--- What a suite of algorithms has, and which private keys it holds, as functions on byte lists.
+-- Which methods and ciphers a suite has, as functions on byte lists.
 
 use Rattle.std.specs.Prelude.{ℕ, Bool, List}
 
@@ -6,4 +6,3 @@ use Rattle.std.specs.Prelude.{ℕ, Bool, List}
 pub record InventoryData : Type 0 where
   pub has_cipher : List ℕ → Bool
   pub has_kex : List ℕ → Bool
-  pub holds : List ℕ → List ℕ → Bool

@@ -3,6 +3,8 @@ pub mod Joined
 pub mod ClearReaderData
 pub mod Inventory
 pub mod KeysData
+pub mod KeysElsewhere
+pub mod KeysElsewhereLaws
 pub mod KeyNames
 pub mod NoSuite
 pub mod NoSuiteLaws

@@ -29,6 +29,7 @@ no_suite = record {
   respond = λ kex random peer. None;
   digest = λ kex input. 0 ∷ [];
   blob = λ alg secret. [];
+  holds = λ alg secret. true;
   sign = λ alg secret input. [];
   verify = λ alg blob input signature. false;
 }

@@ -38,6 +38,7 @@ pub record SuiteData : Type 0 where
   pub respond : List ℕ → List ℕ → List ℕ → Option ResponseData
   pub digest : List ℕ → List ℕ → List ℕ
   pub blob : List ℕ → List ℕ → List ℕ
+  pub holds : List ℕ → List ℕ → Bool
   pub sign : List ℕ → List ℕ → List ℕ → List ℕ
   pub verify : List ℕ → List ℕ → List ℕ → List ℕ → Bool
 
@@ -144,5 +145,6 @@ AnswersAsDiffieHellman m kex =
 pub record IsAgreeing (m : SuiteData) : Type 0 where
   -- both come to one shared secret
   pub agreed : (kex client server : List ℕ) → length client ≡ 32 → length server ≡ 32 → IsBytes client → IsBytes server → Agrees m kex client server
-  -- every key signs
+  -- every key is held, and signs
+  pub held : (alg secret : List ℕ) → m.holds alg secret ≡ true
   pub signed : (alg secret : List ℕ) → Signs m alg secret

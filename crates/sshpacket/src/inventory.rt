@@ -1,6 +1,6 @@
 //! What a suite says that it has.
 
-ghost use Rattle.std.specs.Prelude.{◌≡◌, ◌<◌, ◌^◌, length};
+ghost use Rattle.std.specs.Prelude.{◌≡◌};
 ghost use Rattle.sshwire.specs.Types.{IsName};
 ghost use Rattle.sshpacket.specs.Inventory.{InventoryData};
 
@@ -9,7 +9,8 @@ use crate::suite::Suite;
 /// A suite that says what it has. [`Suite`] gives every name a behaviour, also one that the suite doesn't know; this tells
 /// which names it knows, so that a config that lists another one is refused before a connection is made.
 ///
-/// Whether it has a host key algorithm is told by [`Suite::can`]: it has those that sign. An inventory has no laws. One
+/// Whether it has a host key algorithm is told by [`Suite::can`]: it has those that sign; whether it has a private key, by
+/// [`Suite::holds`]. An inventory has no laws. One
 /// that says yes to what the suite doesn't have refuses less, and nothing that is proved of an endpoint rests on it.
 pub trait Inventory: Suite {
     ghost inventory: { Self → InventoryData };
@@ -23,10 +24,4 @@ pub trait Inventory: Suite {
     fn has_kex(&self, kex: &str) -> bool
         requires { IsName kex.now }
         ensures { result ≡ (inventory self.now).has_kex kex.now };
-
-    /// Whether these bytes are a private key of this algorithm, as the suite has it, with which the suite signs.
-    fn holds(&self, algorithm: &str, private_key: &[u8]) -> bool
-        requires algorithm { IsName algorithm.now }
-        requires private_key { length private_key.now < 2 ^ 32 }
-        ensures { result ≡ (inventory self.now).holds algorithm.now private_key.now };
 }

@@ -12,6 +12,7 @@ mod clear_reader;
 mod fault;
 mod inventory;
 mod keys;
+mod keys_elsewhere;
 mod limits;
 mod limits_laws;
 mod no_suite;
@@ -28,6 +29,7 @@ pub use clear_reader::ClearReader;
 pub use fault::PacketFault;
 pub use inventory::Inventory;
 pub use keys::{KeyParts, Keys};
+pub use keys_elsewhere::{KeysElsewhere, copy_public_key};
 pub use limits::{
     BLOB_LIMIT, BLOCK_LIMIT, DIGEST_LIMIT, KEY_LIMIT, PACKET_LIMIT, SHARE_LIMIT, SIGNATURE_LIMIT,
     TAG_LIMIT,

@@ -117,6 +117,10 @@ impl Suite for NoSuite {
         Err(Memory)
     }
 
+    fn holds(&self, _alg: &str, _secret: &[u8]) -> bool {
+        true
+    }
+
     fn sign(
         &self,
         _alloc: Global,

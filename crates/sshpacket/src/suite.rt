@@ -72,8 +72,9 @@ pub struct Response {
 ///
 /// - An unknown cipher must not mean none, though a cipher that changes nothing has the laws of sealing.
 /// - What is no private key of its algorithm, or of an algorithm that the suite doesn't know, must not
-///   be given a blob that verifies everything, nor a signature that anyone can make; it may be hashed
-///   to a private key of another algorithm.
+///   be given a blob that verifies everything, nor a signature that anyone can make. An endpoint asks the suite to
+///   sign by keys that it holds alone, and tells the blob of others: that of a private key in a wrong form must
+///   not be the key.
 /// - A number comes again after 2^32 packets, with the same keys.
 /// - A MAC is chosen and named also for a cipher with a tag of its own, and is then ignored by the
 ///   suite.
@@ -224,6 +225,16 @@ pub trait Suite {
         requires secret { length secret.now < 2 ^ 32 }
         ensures { IfOk result (λ v. v.items ≡ (meaning self.now).blob alg.now secret.now) };
 
+    /// Whether these bytes are a private key of this algorithm, as the suite has it, with which `sign` signs. Where they
+    /// aren't, they stand for a key that is held elsewhere, by an agent, on a token or in a module of hardware: then they
+    /// are its public key, which `blob` answers, and whoever runs an endpoint is asked for each signature. A suite's `blob`
+    /// should tell nothing of other bytes, which may be a private key in a wrong form
+    /// ([`copy_public_key`](crate::copy_public_key)).
+    fn holds(&self, alg: &str, secret: &[u8]) -> bool
+        requires alg { IsName alg.now }
+        requires secret { length secret.now < 2 ^ 32 }
+        ensures { result ≡ (meaning self.now).holds alg.now secret.now };
+
     /// A signature of the input, at most `SIGNATURE_LIMIT` bytes with its wrapping (RFC 4253 section 6.6).
     fn sign(&self, alloc: Global, alg: &str, secret: &[u8], input: &[u8]) -> Result<Vec<u8>, Memory>
         requires alg { IsName alg.now }
@@ -249,8 +260,8 @@ pub trait Suite {
     ghost lawful: { (s : Self) → IsLawful (meaning s) };
 }
 
-/// A suite of which two ends understand each other: they come to one shared secret, and a signature is
-/// verified by its own key's blob. What is proved of one end needs none of it.
+/// A suite of which two ends understand each other: they come to one shared secret, it holds every private key, and a
+/// signature is verified by its own key's blob. What is proved of one end needs none of it.
 ///
 /// Not every suite is one: decapsulation in ML-KEM fails for a few random bytes, and not all secrets
 /// are keys. Of one method with two random values the condition is `Agrees`, of one secret `Signs`.

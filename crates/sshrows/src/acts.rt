@@ -3,10 +3,10 @@
 use crate::worlds::{judge_prediction, judge_world};
 use sshcore::Decisions;
 use sshlab::{Scenario, ScenarioFault, TEXT_LIMIT};
-use sshpacket::Suite;
+use sshpacket::{KeysElsewhere, Suite};
 use sshrows_acts::{
     Generous, Line, Names, Row, Stop, judge_config, judge_endpoint, judge_waiting, nothing_after,
-    same_text, shows, wrong,
+    same_text, shows, signing_of, split_word, wrong,
 };
 use sshsuite::DeployedSuite;
 use sshsuites::LabSuite;
@@ -54,6 +54,9 @@ fn scenario_of(
     }
 }
 
+/// The lab suite, whose private keys are held elsewhere.
+const ELSEWHERE: KeysElsewhere<LabSuite> = KeysElsewhere { suite: LabSuite };
+
 /// Does the act over an accepted scenario.
 fn act_by(
     alloc: Global,
@@ -63,7 +66,7 @@ fn act_by(
     rest: &[Line<'_>],
     piece_len: usize,
 ) -> Result<(), Stop> {
-    let (word, role) = line.head();
+    let (word, words) = line.head();
     let row = Row {
         names,
         act: line,
@@ -71,15 +74,24 @@ fn act_by(
         piece_len,
     };
     let decisions = &scenario.decisions;
-    match word {
-        "begin" => begin(alloc, row, scenario, (LabSuite, decisions)),
-        "generous" => begin(alloc, row, scenario, (LabSuite, &Generous)),
-        "deployed" => begin(alloc, row, scenario, (DeployedSuite, decisions)),
-        "waiting" => wait(alloc, row, scenario),
-        "world" => judge_world(alloc, scenario, rest),
-        "predict" => judge_prediction(alloc, scenario, rest),
-        "accepted" => nothing_after(alloc, rest),
-        _ => wrong(alloc, line, "config", role, "accepted"),
+    match (word, split_word(words).1) {
+        ("begin", "") => begin(alloc, row, scenario, (LabSuite, decisions)),
+        ("begin", "elsewhere") => {
+            let (signing, row) = signing_of(alloc, row, decisions)?;
+            begin(alloc, row, scenario, (ELSEWHERE, &signing))
+        }
+        ("generous", "") => begin(alloc, row, scenario, (LabSuite, &Generous)),
+        ("deployed", "") => {
+            let (signing, row) = signing_of(alloc, row, decisions)?;
+            begin(alloc, row, scenario, (DeployedSuite, &signing))
+        }
+        ("waiting", "") => wait(alloc, row, scenario, LabSuite),
+        ("waiting", "elsewhere") => wait(alloc, row, scenario, ELSEWHERE),
+        ("waiting", "deployed") => wait(alloc, row, scenario, DeployedSuite),
+        ("world", "") => judge_world(alloc, scenario, rest),
+        ("predict", "") => judge_prediction(alloc, scenario, rest),
+        ("accepted", "") => nothing_after(alloc, rest),
+        _ => wrong(alloc, line, "config", words, "accepted"),
     }
 }
 
@@ -90,7 +102,7 @@ fn begin<S: Suite + Drop, D: Decisions>(
     scenario: &Scenario,
     by: (S, &D),
 ) -> Result<(), Stop> {
-    let (_, role) = row.act.head();
+    let (role, _) = split_word(row.act.head().1);
     match role {
         "client" => judge_endpoint(alloc, row, &scenario.client, by),
         "server" => judge_endpoint(alloc, row, &scenario.server, by),
@@ -98,13 +110,18 @@ fn begin<S: Suite + Drop, D: Decisions>(
     }
 }
 
-/// Judges an endpoint of the scenario that asks and waits, and that the lines of the row answer.
-fn wait(alloc: Global, row: Row<'_>, scenario: &Scenario) -> Result<(), Stop> {
-    let (_, role) = row.act.head();
+/// Judges an endpoint of the scenario over the suite that asks and waits, and that the lines of the row answer.
+fn wait<S: Suite + Drop>(
+    alloc: Global,
+    row: Row<'_>,
+    scenario: &Scenario,
+    suite: S,
+) -> Result<(), Stop> {
+    let (role, _) = split_word(row.act.head().1);
     let decisions = &scenario.decisions;
     match role {
-        "client" => judge_waiting(alloc, row, &scenario.client, LabSuite, decisions),
-        "server" => judge_waiting(alloc, row, &scenario.server, LabSuite, decisions),
+        "client" => judge_waiting(alloc, row, &scenario.client, suite, decisions),
+        "server" => judge_waiting(alloc, row, &scenario.server, suite, decisions),
         _ => same_text(alloc, row.act, "act", "client or server", role),
     }
 }

@@ -5,6 +5,7 @@ use crate::stop::Stop;
 use crate::texts::{put_word, same_text, yes_or_no};
 use crate::words::Line;
 use sshcore::{Decisions, Listener, Notice, Proof};
+use sshwire::Memory;
 use std::alloc::Global;
 use std::cell::{Cell, RefCell};
 
@@ -15,7 +16,7 @@ pub(crate) struct StateData {
     text: RefCell<String>,
     /// Whether memory ran out for one.
     is_lost: Cell<bool>,
-    alloc: Global,
+    pub(crate) alloc: Global,
 }
 
 impl StateData {
@@ -70,7 +71,7 @@ impl StateData {
 /// What decisions were asked and told.
 #[derive(Drop)]
 pub struct Received {
-    /// The questions: `host_key`, or the number of a request.
+    /// The questions: `host_key`, the number of a request, or `signature` with the number, the algorithm, the blob and the input.
     pub(crate) questions: StateData,
     /// The notices, each with its kind and its fields; none where no line of the row judges them.
     pub(crate) notices: StateData,
@@ -92,6 +93,30 @@ impl Received {
 fn keep_number(questions: &StateData, request_number: u32) -> Result<(), Stop> {
     let word = format!(in questions.alloc; "{request_number}")?;
     questions.keep(&word)
+}
+
+/// The words of a question for a signature: its number, the algorithm, the blob and the input.
+pub(crate) fn text_of_signature(
+    alloc: Global,
+    number: usize,
+    algorithm: &str,
+    blob: &[u8],
+    input: &[u8],
+) -> Result<String, Stop> {
+    let words = format!(in alloc; "signature {number} {algorithm}")?;
+    text_with(alloc, &words, &[blob, input])
+}
+
+/// Keeps a question for a signature.
+fn keep_signature(
+    questions: &StateData,
+    number: usize,
+    algorithm: &str,
+    blob: &[u8],
+    input: &[u8],
+) -> Result<(), Stop> {
+    let words = text_of_signature(questions.alloc, number, algorithm, blob, input)?;
+    questions.keep(&words)
 }
 
 /// Keeps a notice.
@@ -146,6 +171,20 @@ impl<D: Decisions> Decisions for Asking<'_, D> {
         let questions = &self.received.questions;
         questions.note(keep_number(questions, request_number));
         self.decisions.user(request_number, user, service, proof)
+    }
+
+    fn signature(
+        &self,
+        alloc: Global,
+        number: usize,
+        algorithm: &str,
+        blob: &[u8],
+        input: &[u8],
+    ) -> Result<Option<Vec<u8>>, Memory> {
+        let questions = &self.received.questions;
+        questions.note(keep_signature(questions, number, algorithm, blob, input));
+        self.decisions
+            .signature(alloc, number, algorithm, blob, input)
     }
 
     fn told(&self, notice: Notice<'_>) {

@@ -12,6 +12,7 @@ use crate::stop::Stop;
 use crate::terms::bytes_of;
 use crate::texts::wrong;
 use crate::words::Line;
+use sshpacket::KeysElsewhere;
 use sshsuite::DeployedSuite;
 use sshsuites::{KemSuite, LabSuite};
 use std::alloc::Global;
@@ -102,6 +103,16 @@ fn calls(
         "lab" => judge_suite(alloc, names, &LabSuite, lines),
         "second" => judge_suite(alloc, names, &KemSuite, lines),
         "deployed" => judge_suite(alloc, names, &DeployedSuite, lines),
-        _ => wrong(alloc, line, "suite", "lab, second or deployed", suite),
+        "elsewhere" => {
+            let suite = KeysElsewhere { suite: LabSuite };
+            judge_suite(alloc, names, &suite, lines)
+        }
+        _ => wrong(
+            alloc,
+            line,
+            "suite",
+            "lab, second, deployed or elsewhere",
+            suite,
+        ),
     }
 }

@@ -36,6 +36,7 @@ fn judge<S: Suite>(alloc: Global, names: &Names, suite: &S, line: &Line<'_>) -> 
         }
         "public" | "shared" => judge_exchange(alloc, names, suite, line, call, rest),
         "blob" | "sign" | "verify" => judge_signing(alloc, names, suite, line, call, rest),
+        "holds" => judge_held(alloc, names, suite, line, rest),
         _ => wrong(alloc, line, "line", "a call of a suite", call),
     }
 }
@@ -161,4 +162,20 @@ fn judge_signing<S: Suite>(
     let signature = input_of(alloc, names, line, signature)?;
     let found = suite.verify(alloc, algorithm, &key, &input, &signature)?;
     same_text(alloc, line, "verified", wanted, yes_or_no(found))
+}
+
+/// `holds ALGORITHM SECRET YN`.
+fn judge_held<S: Suite>(
+    alloc: Global,
+    names: &Names,
+    suite: &S,
+    line: &Line<'_>,
+    words: &str,
+) -> Result<(), Stop> {
+    let (algorithm, words) = split_word(words);
+    let (key, wanted) = split_word(words);
+    let algorithm = name_of(alloc, line, algorithm)?;
+    let key = input_of(alloc, names, line, key)?;
+    let found = suite.holds(algorithm, &key);
+    same_text(alloc, line, "held", wanted, yes_or_no(found))
 }

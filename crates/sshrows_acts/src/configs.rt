@@ -110,7 +110,7 @@ fn is_verdict(text: &str) -> bool {
     let (word, _) = split_word(text);
     matches!(
         word,
-        "refused" | "attempts" | "offered" | "kexinit" | "judged" | "generous"
+        "refused" | "attempts" | "offered" | "kexinit" | "judged" | "named" | "generous"
     )
 }
 
@@ -122,7 +122,7 @@ fn refused(alloc: Global, line: &Line<'_>, fault: &ConfigFault) -> Result<(), St
     }
 }
 
-/// A config was judged over the suite of deployed algorithms: `judged fits`, or the refusal as it is printed.
+/// A config was judged over the suite of deployed algorithms, or its names were: `fits`, or the refusal as it is printed.
 fn judged_deployed(
     alloc: Global,
     line: &Line<'_>,
@@ -135,7 +135,8 @@ fn judged_deployed(
     }
 }
 
-/// A client's config was accepted: `attempts N`, `kexinit TERMS`, `judged TEXT`, or `generous` and the lines of an endpoint.
+/// A client's config was accepted: `attempts N`, `kexinit TERMS`, `judged TEXT`, `named TEXT`, or `generous` and the lines of an
+/// endpoint.
 fn accepted_client(
     alloc: Global,
     names: &Names,
@@ -155,6 +156,7 @@ fn accepted_client(
             judge_kexinit(alloc, names, line, rest, &found)
         }
         "judged" => judged_deployed(alloc, line, rest, config.judge(&DeployedSuite)),
+        "named" => judged_deployed(alloc, line, rest, config.judge_names(&DeployedSuite)),
         "generous" => {
             let row = Row {
                 names,
@@ -168,8 +170,8 @@ fn accepted_client(
     }
 }
 
-/// A server's config was accepted: `offered N`, the number of its services, `kexinit TERMS`, `judged TEXT`, or `generous` and
-/// the lines of an endpoint.
+/// A server's config was accepted: `offered N`, the number of its services, `kexinit TERMS`, `judged TEXT`, `named TEXT`,
+/// or `generous` and the lines of an endpoint.
 fn accepted_server(
     alloc: Global,
     names: &Names,
@@ -186,6 +188,7 @@ fn accepted_server(
             judge_kexinit(alloc, names, line, rest, &found)
         }
         "judged" => judged_deployed(alloc, line, rest, config.judge(&DeployedSuite)),
+        "named" => judged_deployed(alloc, line, rest, config.judge_names(&DeployedSuite)),
         "generous" => {
             let row = Row {
                 names,

@@ -1,16 +1,29 @@
-//! A suite of which is counted what it verifies.
+//! A suite of which is counted what it signs and verifies.
 
 use sshpacket::{Capability, KeyLens, Keys, Need, Response, ShareForm, Suite};
 use sshwire::Memory;
 use std::alloc::Global;
 use std::cell::Cell;
 
-/// A suite that answers as another does, and counts how often it is asked to verify a signature.
+/// A suite that answers as another does, and counts how often it is asked to make a signature and to verify one.
 #[derive(Drop)]
 pub(crate) struct CountedSuite<S: Suite> {
     pub(crate) suite: S,
+    /// How many signatures were made.
+    pub(crate) signed: Cell<u32>,
     /// How many signatures were verified.
     pub(crate) verified: Cell<u32>,
+}
+
+impl<S: Suite> CountedSuite<S> {
+    /// A suite that answers as this one, before any signature.
+    pub(crate) fn new(suite: S) -> CountedSuite<S> {
+        CountedSuite {
+            suite,
+            signed: Cell::new(0),
+            verified: Cell::new(0),
+        }
+    }
 }
 
 impl<S: Suite> Suite for CountedSuite<S> {
@@ -98,6 +111,10 @@ impl<S: Suite> Suite for CountedSuite<S> {
         self.suite.blob(alloc, alg, secret)
     }
 
+    fn holds(&self, alg: &str, secret: &[u8]) -> bool {
+        self.suite.holds(alg, secret)
+    }
+
     fn sign(
         &self,
         alloc: Global,
@@ -105,6 +122,7 @@ impl<S: Suite> Suite for CountedSuite<S> {
         secret: &[u8],
         input: &[u8],
     ) -> Result<Vec<u8>, Memory> {
+        self.signed.set(self.signed.get().saturating_add(1));
         self.suite.sign(alloc, alg, secret, input)
     }
 

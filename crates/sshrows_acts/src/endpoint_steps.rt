@@ -1,8 +1,9 @@
 //! What a row of an endpoint does, step by step.
 
+use crate::asked::text_of_signature;
 use crate::below_texts::text_with;
 use crate::endpoints::Subject;
-use crate::judged::Judged;
+use crate::judged::{Judged, Reply};
 use crate::names::Names;
 use crate::refusals::{is_out_of_memory, refused_sending};
 use crate::stop::Stop;
@@ -50,10 +51,7 @@ pub(crate) fn step<E: Judged>(
             let description = text_of(alloc, names, line, terms)?;
             disconnect(alloc, line, talk, reason, &description)
         }
-        "answer" => {
-            let decided = flag_of(alloc, line, rest)?;
-            answer(alloc, line, talk, decided)
-        }
+        "answer" => reply(alloc, names, line, talk, rest),
         _ => look(alloc, line, talk, word, rest),
     }
 }
@@ -95,6 +93,7 @@ fn look<E: Judged>(
             let found = text_of_question(alloc, &talk.endpoint.question())?;
             same_text(alloc, line, "question", rest, &found)
         }
+        "signed" => shows(alloc, line, "signed", rest, &talk.endpoint.signed()),
         "verified" => shows(alloc, line, "verified", rest, &talk.endpoint.verified()),
         _ => wrong(alloc, line, "line", "a word of an endpoint", word),
     }
@@ -130,15 +129,36 @@ fn disconnect<E: Judged>(
     }
 }
 
+/// Gives the endpoint the answer of these words: `yes` or `no`, `signature` with the bytes, or `unsigned`.
+fn reply<E: Judged>(
+    alloc: Global,
+    names: &Names,
+    line: &Line<'_>,
+    talk: &mut Subject<'_, E>,
+    words: &str,
+) -> Result<(), Stop> {
+    match split_word(words) {
+        ("unsigned", "") => answer(alloc, line, talk, Reply::Signed(None)),
+        ("signature", terms) => {
+            let signature = bytes_of(alloc, names, line, terms)?;
+            answer(alloc, line, talk, Reply::Signed(Some(&signature)))
+        }
+        _ => {
+            let decided = flag_of(alloc, line, words)?;
+            answer(alloc, line, talk, Reply::Decided(decided))
+        }
+    }
+}
+
 /// Gives the endpoint an answer.
 fn answer<E: Judged>(
     alloc: Global,
     line: &Line<'_>,
     talk: &mut Subject<'_, E>,
-    decided: bool,
+    reply: Reply<'_>,
 ) -> Result<(), Stop> {
     talk.judged = false;
-    match talk.endpoint.answer(decided, &mut talk.out) {
+    match talk.endpoint.answer(reply, &mut talk.out) {
         Ok(true) => Ok(()),
         Ok(false) => wrong(alloc, line, "line", "a word of an endpoint", "answer"),
         Err(_) => Err(refused_call(alloc, line, talk)),
@@ -248,8 +268,8 @@ fn put_chosen(text: &mut String, names: &ChosenNames<'_>) -> Result<(), Stop> {
     Ok(())
 }
 
-/// A question: `host_key` with the algorithm and the blob, or `user` with the number, the user, the service and the proof; or
-/// `nothing`.
+/// A question: `host_key` with the algorithm and the blob, `user` with the number, the user, the service and the proof, or
+/// `signature` with the number, the algorithm, the blob and the input; or `nothing`.
 fn text_of_question(alloc: Global, question: &Option<Question<'_>>) -> Result<String, Stop> {
     match question {
         None => Ok(String::from_str(alloc, "nothing")?),
@@ -268,6 +288,14 @@ fn text_of_question(alloc: Global, question: &Option<Question<'_>>) -> Result<St
             let words = format!(in alloc; "user {number} {user} {service}")?;
             text_of_proof(alloc, &words, proof)
         }
+        Some(
+            Question::Signature {
+                number,
+                algorithm,
+                blob,
+                input,
+            },
+        ) => text_of_signature(alloc, *number, algorithm, blob, input),
     }
 }
 

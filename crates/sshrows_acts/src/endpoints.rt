@@ -15,7 +15,6 @@ use sshcore::{AskingEndpoint, ClientConfig, Decisions, Endpoint, ServerConfig, S
 use sshpacket::Suite;
 use sshwire::Memory;
 use std::alloc::Global;
-use std::cell::Cell;
 
 /// A config of which endpoints are made.
 pub trait Configures {
@@ -112,8 +111,8 @@ pub(crate) struct Subject<'a, E: Judged> {
 }
 
 /// Judges an endpoint of this config over the suite: first one that asks these decisions by itself, then one that asks and
-/// waits, which they answer. What they are asked and told is kept, and how many signatures the suite verifies is counted. The
-/// second has to stand as the first after each piece.
+/// waits, which they answer. What they are asked and told is kept, and how many signatures the suite makes and verifies is counted.
+/// The second has to stand as the first after each piece.
 pub fn judge_endpoint<C: Configures, S: Suite + Drop, D: Decisions>(
     alloc: Global,
     row: Row<'_>,
@@ -125,11 +124,9 @@ pub fn judge_endpoint<C: Configures, S: Suite + Drop, D: Decisions>(
         decisions,
         received,
     };
-    let suite = &CountedSuite {
-        suite,
-        verified: Cell::new(0),
-    };
+    let suite = &CountedSuite::new(suite);
     let stood = judge_deciding(alloc, row, config, suite, asking)?;
+    suite.signed.set(0);
     suite.verified.set(0);
     row.act.told.asks.set(true);
     let stands = judge_asking(alloc, row, config, suite, asking, false)?;
@@ -148,10 +145,7 @@ fn judge_deciding<'a, C: Configures, S: Suite, D: Decisions>(
 ) -> Result<usize, Stop> {
     let mut out = Vec::from_slice(alloc, BEFORE)?;
     let made = match config.deciding(alloc, suite, asking, &mut out) {
-        Ok(endpoint) => Ok(Deciding {
-            endpoint,
-            verified: &suite.verified,
-        }),
+        Ok(endpoint) => Ok(Deciding { endpoint, suite }),
         Err(_) => Err(Memory),
     };
     judge(alloc, row, suite, made, out, asking.received)
@@ -171,7 +165,7 @@ fn judge_asking<'a, C: Configures, S: Suite, D: Decisions>(
         Ok(endpoint) => Ok(Waiting {
             endpoint,
             asking,
-            verified: &suite.verified,
+            suite,
             by_row,
         }),
         Err(_) => Err(Memory),
@@ -180,7 +174,7 @@ fn judge_asking<'a, C: Configures, S: Suite, D: Decisions>(
 }
 
 /// Judges an endpoint of this config that asks and waits, which the lines of the row answer. These decisions are told what the
-/// peer tells people. How many signatures the suite verifies is counted.
+/// peer tells people. How many signatures the suite makes and verifies is counted.
 pub fn judge_waiting<C: Configures, S: Suite + Drop, D: Decisions>(
     alloc: Global,
     row: Row<'_>,
@@ -193,10 +187,7 @@ pub fn judge_waiting<C: Configures, S: Suite + Drop, D: Decisions>(
         decisions,
         received,
     };
-    let suite = &CountedSuite {
-        suite,
-        verified: Cell::new(0),
-    };
+    let suite = &CountedSuite::new(suite);
     judge_asking(alloc, row, config, suite, asking, true)?;
     Ok(())
 }

@@ -2,12 +2,13 @@
 //! lines of its row answer.
 
 use crate::asked::Asking;
+use crate::counted_suite::CountedSuite;
 use sshcore::{
     AskingEndpoint, ChosenNames, Decisions, End, Endpoint, Fed, Phase, Question, Session,
 };
 use sshpacket::Suite;
 use sshwire::Memory;
-use std::cell::Cell;
+use std::alloc::Global;
 
 /// An endpoint that is judged.
 pub(crate) trait Judged {
@@ -43,20 +44,30 @@ pub(crate) trait Judged {
     }
 
     /// Gives it an answer of a line, and tells whether it takes one.
-    fn answer(&mut self, _decided: bool, _out: &mut Vec<u8>) -> Result<bool, Memory> {
+    fn answer(&mut self, _reply: Reply<'_>, _out: &mut Vec<u8>) -> Result<bool, Memory> {
         Ok(false)
     }
+
+    /// How many signatures were made since the last call.
+    fn signed(&self) -> u32;
 
     /// How many signatures were verified since the last call.
     fn verified(&self) -> u32;
 }
 
+/// An answer: yes or no, or a signature or none.
+#[derive(Clone, Copy)]
+pub(crate) enum Reply<'r> {
+    Decided(bool),
+    Signed(Option<&'r [u8]>),
+}
+
 /// An endpoint that asks its decisions itself.
 #[derive(Drop)]
 pub(crate) struct Deciding<'a, S: Suite, D: Decisions> {
-    pub(crate) endpoint: Endpoint<'a, S, Asking<'a, D>>,
-    /// How many signatures were verified.
-    pub(crate) verified: &'a Cell<u32>,
+    pub(crate) endpoint: Endpoint<'a, CountedSuite<S>, Asking<'a, D>>,
+    /// The suite that counts.
+    pub(crate) suite: &'a CountedSuite<S>,
 }
 
 impl<S: Suite, D: Decisions> Judged for Deciding<'_, S, D> {
@@ -94,19 +105,23 @@ impl<S: Suite, D: Decisions> Judged for Deciding<'_, S, D> {
         self.endpoint.into_session()
     }
 
+    fn signed(&self) -> u32 {
+        self.suite.signed.replace(0)
+    }
+
     fn verified(&self) -> u32 {
-        self.verified.replace(0)
+        self.suite.verified.replace(0)
     }
 }
 
 /// An endpoint that asks and waits.
 #[derive(Drop)]
 pub(crate) struct Waiting<'a, S: Suite, D: Decisions> {
-    pub(crate) endpoint: AskingEndpoint<'a, S, Asking<'a, D>>,
+    pub(crate) endpoint: AskingEndpoint<'a, CountedSuite<S>, Asking<'a, D>>,
     /// Who answers, and is told what the peer tells people.
     pub(crate) asking: &'a Asking<'a, D>,
-    /// How many signatures were verified.
-    pub(crate) verified: &'a Cell<u32>,
+    /// The suite that counts.
+    pub(crate) suite: &'a CountedSuite<S>,
     /// Whether the lines of its row answer instead.
     pub(crate) by_row: bool,
 }
@@ -124,24 +139,53 @@ impl<S: Suite, D: Decisions> Waiting<'_, S, D> {
 
     /// Answers what it asks by the decisions.
     fn decide(&mut self, out: &mut Vec<u8>) -> Result<(), Memory> {
-        let answer = match self.endpoint.question() {
-            Some(question) => decided(self.asking, &question),
-            None => false,
+        let decided = match self.endpoint.question() {
+            Some(question) => answer_of(self.asking, &question)?,
+            None => return Ok(()),
         };
-        self.endpoint.answer(answer, out)
+        match decided {
+            Decided::Flag(flag) => self.endpoint.answer(flag, out),
+            Decided::Unsigned => self.endpoint.answer_signature(None, out),
+            Decided::Signed(signature) => self.endpoint.answer_signature(Some(&signature), out),
+        }
     }
 }
 
+/// What decisions answer.
+#[derive(Drop)]
+enum Decided {
+    Flag(bool),
+    Unsigned,
+    Signed(Vec<u8>),
+}
+
 /// What the decisions answer.
-fn decided<D: Decisions>(decisions: &D, question: &Question<'_>) -> bool {
+fn answer_of<D: Decisions>(
+    asking: &Asking<'_, D>,
+    question: &Question<'_>,
+) -> Result<Decided, Memory> {
     match question {
-        Question::HostKey { algorithm, blob } => decisions.host_key(algorithm, blob),
+        Question::HostKey { algorithm, blob } => {
+            Ok(Decided::Flag(asking.host_key(algorithm, blob)))
+        }
         Question::User {
             number,
             user,
             service,
             proof,
-        } => decisions.user(*number, user, service, proof),
+        } => Ok(Decided::Flag(asking.user(*number, user, service, proof))),
+        Question::Signature {
+            number,
+            algorithm,
+            blob,
+            input,
+        } => {
+            let alloc: Global = asking.received.questions.alloc;
+            match asking.signature(alloc, *number, algorithm, blob, input)? {
+                None => Ok(Decided::Unsigned),
+                Some(signature) => Ok(Decided::Signed(signature)),
+            }
+        }
     }
 }
 
@@ -196,15 +240,22 @@ impl<S: Suite, D: Decisions> Judged for Waiting<'_, S, D> {
         self.endpoint.question()
     }
 
-    fn answer(&mut self, decided: bool, out: &mut Vec<u8>) -> Result<bool, Memory> {
+    fn answer(&mut self, reply: Reply<'_>, out: &mut Vec<u8>) -> Result<bool, Memory> {
         if !self.by_row {
             return Ok(false);
         }
-        self.endpoint.answer(decided, out)?;
+        match reply {
+            Reply::Decided(decided) => self.endpoint.answer(decided, out)?,
+            Reply::Signed(signature) => self.endpoint.answer_signature(signature, out)?,
+        }
         Ok(true)
     }
 
+    fn signed(&self) -> u32 {
+        self.suite.signed.replace(0)
+    }
+
     fn verified(&self) -> u32 {
-        self.verified.replace(0)
+        self.suite.verified.replace(0)
     }
 }

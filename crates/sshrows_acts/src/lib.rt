@@ -28,6 +28,7 @@ mod linked;
 mod names;
 mod parts;
 mod refusals;
+mod signing;
 mod stop;
 mod terms;
 mod texts;
@@ -39,6 +40,7 @@ pub use endpoints::{Configures, Row, judge_endpoint, judge_waiting};
 pub use generous::Generous;
 pub use names::Names;
 pub use refusals::{is_out_of_memory, refused};
+pub use signing::{Signing, signing_of};
 pub use stop::{Refusal, Stop, Told, Wrong};
 pub use terms::{bytes_of, digest_of, xor_of};
 pub use texts::{

@@ -7,6 +7,7 @@ use Rattle.sshwire.specs.Types.{string}
 use Rattle.sshpacket.specs.declared.suite.Need.TheVariants.{Encryption, Signature}
 use Rattle.sshwire.specs.declared.share_form.ShareForm.TheVariants.{Mpint, OctetString}
 use Rattle.sshpacket.specs.declared.suite.KeyLens.{KeyLens}
+use Rattle.sshpacket.specs.KeysElsewhere.{public_part}
 use Rattle.sshpacket.specs.Packet.{number}
 use Rattle.sshpacket.specs.Suite.{ResponseData, SuiteData}
 use Rattle.sshsuite.specs.Curve25519.{base_point, x25519}
@@ -72,7 +73,11 @@ verify alg blob input found =
     else if is_ed25519 alg && (length blob == 51) && (length found == 83) then is_verified blob input found
     else false
 
--- the answers of the suite
+-- A private key of the algorithm by which the suite signs, which has 32 bytes (RFC 8032 section 5.1.5); by RSA it only verifies.
+unfoldable pub is_held : List ℕ → List ℕ → Bool
+is_held alg secret = is_ed25519 alg && (length secret == 32)
+
+-- the answers of the suite; where it doesn't hold a private key, the public key stands in its place
 abbrev pub deployed : SuiteData
 deployed = record {
   need = λ kex. if is_curve25519 kex || is_group14 kex then Signature else Encryption;
@@ -90,7 +95,8 @@ deployed = record {
   shared = λ kex random peer. shared kex random peer;
   respond = λ kex random peer. option_map (response_with (share kex random)) (shared kex random peer);
   digest = λ kex input. sha256 input;
-  blob = λ alg secret. wrapped (public_key secret);
+  blob = λ alg secret. if is_held alg secret then wrapped (public_key secret) else public_part secret;
+  holds = λ alg secret. is_held alg secret;
   sign = λ alg secret input. wrapped (signature secret input);
   verify = λ alg blob input found. verify alg blob input found;
 }

@@ -1,6 +1,6 @@
 -- What the suite has.
 
-use Rattle.std.specs.Prelude.{ℕ, ◌==◌, ◌&&◌, Bool, List, [], ◌∷◌, codes, length}
+use Rattle.std.specs.Prelude.{ℕ, Bool, List, [], ◌∷◌, codes}
 use Rattle.std.specs.List.{list_any}
 use Rattle.std.specs.Str.{bytes_eq}
 use Rattle.sshpacket.specs.Inventory.{InventoryData}
@@ -13,14 +13,6 @@ deployed_ciphers = codes "chacha20-poly1305@openssh.com" ∷ codes "aes256-gcm@o
 abbrev pub deployed_methods : List (List ℕ)
 deployed_methods = codes "curve25519-sha256" ∷ codes "curve25519-sha256@libssh.org" ∷ codes "diffie-hellman-group14-sha256" ∷ []
 
--- the algorithms by which it signs; by RSA it only verifies
-abbrev pub signing_algorithms : List (List ℕ)
-signing_algorithms = codes "ssh-ed25519" ∷ []
-
--- how many bytes a private key of them has (RFC 8032 section 5.1.5)
-abbrev pub private_key_length : ℕ
-private_key_length = 32
-
 -- whether the name is one of these
 abbrev pub is_one : List (List ℕ) → List ℕ → Bool
 is_one names name = list_any (λ own. bytes_eq name own) names
@@ -29,5 +21,4 @@ abbrev pub deployed_inventory : InventoryData
 deployed_inventory = record {
   has_cipher = λ cipher. is_one deployed_ciphers cipher;
   has_kex = λ kex. is_one deployed_methods kex;
-  holds = λ algorithm secret. is_one signing_algorithms algorithm && (length secret == private_key_length);
 }

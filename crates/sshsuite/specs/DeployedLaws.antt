@@ -15,13 +15,15 @@ use Rattle.sshpacket.specs.Packet.{number}
 use Rattle.sshpacket.specs.Suite.{FitsShare, FitsShared, IsLawful, IsNumberBody, Keeps, ResponseData}
 use Rattle.sshwire.specs.declared.share_form.ShareForm.{ShareForm}
 use Rattle.sshwire.specs.declared.share_form.ShareForm.TheVariants.{Mpint, OctetString}
-use Rattle.sshpacket.specs.declared.limits.TheConstants.{BLOCK_LIMIT, KEY_LIMIT, SHARE_LIMIT}
+use Rattle.sshpacket.specs.declared.limits.TheConstants.{BLOB_LIMIT, BLOCK_LIMIT, KEY_LIMIT, SHARE_LIMIT}
+use Rattle.sshpacket.specs.KeysElsewhere.{public_part}
+use Rattle.sshpacket.specs.KeysElsewhereLaws.{public_part_short}
 use Rattle.sshsuite.specs.Bits.{bytes_of_words}
 use Rattle.sshsuite.specs.Curve25519.{affine, base_point, x25519}
 use Rattle.sshsuite.specs.Edwards25519.{with_sign, encode_point}
 use Rattle.sshsuite.specs.declared.edwards25519.Point.{Point}
 use Rattle.sshsuite.specs.FieldElement.{encode}
-use Rattle.sshsuite.specs.Deployed.{deployed, ed25519, is_aes256_gcm, is_curve25519, is_group14, key_lens, response_with, share, shared, shared_secret, wrapped}
+use Rattle.sshsuite.specs.Deployed.{deployed, ed25519, is_aes256_gcm, is_curve25519, is_group14, is_held, key_lens, response_with, share, shared, shared_secret, wrapped}
 use Rattle.sshsuite.specs.Group14.{group14_share, group14_shared}
 use Rattle.sshsuite.specs.Group14Laws.{body_bytes, body_number, group14_share_bytes, group14_share_fits, group14_shared_given}
 use Rattle.sshsuite.specs.MpintBody.{mpint_body}
@@ -203,7 +205,9 @@ deployed_lawful = record {
   digest_low = λ kex input. omega (arith, length-sha256 input);
   digest_high = λ kex input. omega (arith, length-sha256 input);
   digest_even = λ kex input other. length-sha256 input ∙ sym (length-sha256 other);
-  blob_high = λ alg secret name. let long = length_wrapped (public_key secret) in let key = length_key secret in omega (arith, long, key);
+  blob_high = λ alg secret name. let long = length_wrapped (public_key secret) in let key = length_key secret in
+      cond_both (is_held alg secret) (wrapped (public_key secret)) (public_part secret) (λ (xs : List ℕ). length xs ≤ BLOB_LIMIT)
+      (λ _. omega (arith, long, key)) (λ _. public_part_short secret);
   sign_high = λ alg secret input name. let long = length_wrapped (signature secret input) in let own = length_signature secret input in omega (arith, long, own);
   seal_bytes = λ keys seq clear h.
       cond_both (is_aes256_gcm keys.cipher) (gcm_seal keys.iv keys.enc seq clear) (seal keys.enc seq clear) (λ (xs : List ℕ). IsBytes xs)

@@ -7,9 +7,8 @@ use crate::deployed_suite::DeployedSuite;
 use crate::keyed_suite::KeyedSuite;
 use sshpacket::Inventory;
 
-/// The ciphers chacha20-poly1305@openssh.com and aes256-gcm@openssh.com, the methods curve25519-sha256, under both of its
-/// names, and diffie-hellman-group14-sha256, and private keys of ssh-ed25519 with 32 bytes. By RSA the suite
-/// verifies and doesn't sign, so it holds no key of these algorithms.
+/// The ciphers chacha20-poly1305@openssh.com and aes256-gcm@openssh.com, and the methods curve25519-sha256, under both of its
+/// names, and diffie-hellman-group14-sha256.
 impl Inventory for DeployedSuite {
     ghost inventory = { λ _. deployed_inventory };
 
@@ -21,10 +20,6 @@ impl Inventory for DeployedSuite {
         kex == "curve25519-sha256"
             || kex == "curve25519-sha256@libssh.org"
             || kex == "diffie-hellman-group14-sha256"
-    }
-
-    fn holds(&self, algorithm: &str, private_key: &[u8]) -> bool {
-        algorithm == "ssh-ed25519" && private_key.len() == 32
     }
 }
 
@@ -38,9 +33,5 @@ impl Inventory for KeyedSuite<'_> {
 
     fn has_kex(&self, kex: &str) -> bool {
         DeployedSuite.has_kex(kex)
-    }
-
-    fn holds(&self, algorithm: &str, private_key: &[u8]) -> bool {
-        DeployedSuite.holds(algorithm, private_key)
     }
 }

@@ -1,7 +1,7 @@
 //! Algorithms that are deployed, as a suite.
 
 ghost use Rattle.std.specs.Prelude.{◌≡◌, ◌<◌, ◌≤◌, ◌^◌, IfOk, drop, length, option_map};
-ghost use Rattle.sshsuite.specs.Deployed.{deployed, is_aes256_gcm, is_curve25519, is_ed25519, is_group14, is_verified, share, shared, shared_secret, verify, wrapped};
+ghost use Rattle.sshsuite.specs.Deployed.{deployed, is_aes256_gcm, is_curve25519, is_ed25519, is_group14, is_held, is_verified, share, shared, shared_secret, verify, wrapped};
 ghost use Rattle.sshsuite.specs.DeployedLaws.{deployed_lawful};
 
 use crate::chacha20::stream;
@@ -14,7 +14,9 @@ use crate::rsa::rsa_verify;
 use crate::rsa_fields::is_rsa;
 use crate::{gcm, sealing};
 use sha2::{Digest, Sha256};
-use sshpacket::{Capability, KeyLens, Keys, Need, Response, ShareForm, Suite, leading_uint32};
+use sshpacket::{
+    Capability, KeyLens, Keys, Need, Response, ShareForm, Suite, copy_public_key, leading_uint32,
+};
 use sshwire::{Memory, put_string};
 use std::alloc::Global;
 
@@ -27,10 +29,12 @@ const ED25519: &str = "ssh-ed25519";
 /// chacha20-poly1305@openssh.com (OpenSSH PROTOCOL.chacha20poly1305) and aes256-gcm@openssh.com (RFC 5647 as OpenSSH
 /// PROTOCOL section 1.6 has it).
 ///
-/// A private key is the 32 bytes of RFC 8032 section 5.1.5; other bytes are hashed to one as these are. By RSA it
-/// verifies and doesn't sign: whatever the name, `blob` and `sign` answer as ssh-ed25519, which nobody takes for RSA. So a
-/// client lists the names of RSA among its host key algorithms, and a server has no host key of them, nor a client a
-/// credential. Taken are moduli of 2048 to 8192 bits and odd exponents from 3 to below 2^24.
+/// It holds the private keys of ssh-ed25519 that are the 32 bytes of RFC 8032 section 5.1.5. By RSA it verifies and doesn't
+/// sign. What it doesn't hold stands for a key that is held elsewhere: `blob` takes bytes that begin with a name, as a
+/// string, for its public key, and tells nothing of others ([`copy_public_key`]); and whoever runs the endpoint is asked for
+/// its signatures. `sign` answers as ssh-ed25519 whatever the name, by the hash of
+/// whatever bytes; an endpoint calls it for keys that are held alone. Taken are moduli of 2048 to 8192 bits and odd
+/// exponents from 3 to below 2^24.
 ///
 /// [`Inventory`](sshpacket::Inventory) tells which names these are, so that a config that lists another one is refused. Of other names:
 ///
@@ -176,8 +180,16 @@ impl Suite for DeployedSuite {
         Ok(Vec::from_slice(alloc, &Sha256::digest(input))?)
     }
 
-    fn blob(&self, alloc: Global, _alg: &str, secret: &[u8]) -> Result<Vec<u8>, Memory> {
-        wrapped(alloc, &public_key(secret))
+    fn blob(&self, alloc: Global, alg: &str, secret: &[u8]) -> Result<Vec<u8>, Memory> {
+        if is_held(alg, secret) {
+            wrapped(alloc, &public_key(secret))
+        } else {
+            copy_public_key(alloc, secret)
+        }
+    }
+
+    fn holds(&self, alg: &str, secret: &[u8]) -> bool {
+        is_held(alg, secret)
     }
 
     fn sign(
@@ -229,6 +241,14 @@ fn is_aes256_gcm(cipher: &str) -> bool
     ensures { result ≡ is_aes256_gcm cipher.now }
 {
     cipher == "aes256-gcm@openssh.com"
+}
+
+/// Whether these bytes are a private key of ssh-ed25519, which has 32.
+#[tactic(auto, unfolding(crate::specs::Deployed::is_held))]
+pub(crate) fn is_held(alg: &str, secret: &[u8]) -> bool
+    ensures { result ≡ is_held alg.now secret.now }
+{
+    is_ed25519(alg) && secret.len() == 32
 }
 
 /// Whether this is the name of ssh-ed25519.

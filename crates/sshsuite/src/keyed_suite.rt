@@ -5,10 +5,10 @@ ghost use Rattle.sshsuite.specs.Deployed.{deployed};
 ghost use Rattle.sshsuite.specs.DeployedLaws.{deployed_lawful};
 ghost use Rattle.sshsuite.specs.Ed25519.{public_key};
 
-use crate::deployed_suite::{DeployedSuite, wrapped};
+use crate::deployed_suite::{DeployedSuite, is_held, wrapped};
 use crate::ed25519::{public_key, signature};
 use crate::key_pair::KeyPair;
-use sshpacket::{Capability, KeyLens, Keys, Need, Response, ShareForm, Suite};
+use sshpacket::{Capability, KeyLens, Keys, Need, Response, ShareForm, Suite, copy_public_key};
 use sshwire::Memory;
 use std::alloc::Global;
 
@@ -120,8 +120,16 @@ impl Suite for KeyedSuite<'_> {
         DeployedSuite.digest(alloc, kex, input)
     }
 
-    fn blob(&self, alloc: Global, _alg: &str, secret: &[u8]) -> Result<Vec<u8>, Memory> {
-        wrapped(alloc, &self.public_key(secret))
+    fn blob(&self, alloc: Global, alg: &str, secret: &[u8]) -> Result<Vec<u8>, Memory> {
+        if is_held(alg, secret) {
+            wrapped(alloc, &self.public_key(secret))
+        } else {
+            copy_public_key(alloc, secret)
+        }
+    }
+
+    fn holds(&self, alg: &str, secret: &[u8]) -> bool {
+        is_held(alg, secret)
     }
 
     fn sign(

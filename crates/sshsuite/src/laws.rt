@@ -1,7 +1,8 @@
 //! What the calls compute, in the RFCs' own words: theorems on their meanings, each of which is the code
 //! written again. No function of the crate calls them.
 
-ghost use Rattle.std.specs.Prelude.{◌≡◌, ◌<◌, ◌+◌, ◌*◌, ◌%◌, ◌^◌, List, Some, true, ℕ, bit_xor, length, slice_index};
+ghost use Rattle.sshpacket.specs.KeysElsewhere.{public_part};
+ghost use Rattle.std.specs.Prelude.{false, ◌≡◌, ◌<◌, ◌+◌, ◌*◌, ◌%◌, ◌^◌, List, Some, true, ℕ, bit_xor, length, slice_index};
 ghost use Rattle.sshwire.specs.Types.{IsBytes};
 ghost use Rattle.sshsuite.specs.Aes.{cipher, number_at, round_keys};
 ghost use Rattle.sshsuite.specs.AesBytes.{IsExpanded, bit_of, block_of, byte_inverse, byte_mapped, byte_product, encrypted_state, key_state, mapped_bit, sample_key, tag_additional, tag_key, tag_sealed};
@@ -115,10 +116,11 @@ pub fn rsa_law()
 
 /// The law of the suite: its shares and what both sides share are those of RFC 8731, in numbers modulo 2^255 - 19, and of RFC
 /// 4253 section 8, modulo the prime of group 14 (`share`, `shared`); its public keys and signatures are those of RFC 8709
-/// (`key`, `signature`).
+/// (`key`, `signature`). What it doesn't hold is its own public key, if it begins with a name, and no key else (`elsewhere`).
 pub fn deployed_law()
     ensures share { (kex random : List ℕ) → deployed.share kex random ≡ share_bytes kex random }
     ensures shared { (kex random peer : List ℕ) → IsBytes peer → deployed.shared kex random peer ≡ shared_body kex random peer }
-    ensures key { (alg secret : List ℕ) → deployed.blob alg secret ≡ wrapped (key_of secret) }
+    ensures key { (alg secret : List ℕ) → deployed.holds alg secret ≡ true → deployed.blob alg secret ≡ wrapped (key_of secret) }
+    ensures elsewhere { (alg secret : List ℕ) → deployed.holds alg secret ≡ false → deployed.blob alg secret ≡ public_part secret }
     ensures signature { (alg secret input : List ℕ) → deployed.sign alg secret input ≡ wrapped (signed secret input) }
 {}

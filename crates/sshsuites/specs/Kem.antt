@@ -76,6 +76,7 @@ kem = record {
   respond = λ kex random peer. kem_respond random peer;
   digest = lab.digest;
   blob = lab.blob;
+  holds = lab.holds;
   sign = lab.sign;
   verify = lab.verify;
 }

@@ -212,5 +212,6 @@ kem_agreeing = record {
     responds = responds client server h;
     same = same_number client server k;
   };
+  held = λ alg secret. refl;
   signed = lab_agreeing.signed;
 }

@@ -119,6 +119,7 @@ lab = record {
   respond = λ kex random peer. lab_respond random peer;
   digest = λ kex input. sha256 input;
   blob = lab_blob;
+  holds = λ alg secret. true;
   sign = λ alg secret input. signature_by (lab_blob alg secret) input;
   verify = λ alg blob input signature. bytes_eq signature (signature_by blob input);
 }

@@ -1,6 +1,6 @@
 -- The decisions of a lab endpoint.
 
-use Rattle.std.specs.Prelude.{ℕ, ◌==◌, ◌&&◌, Bool, true, false, not, List}
+use Rattle.std.specs.Prelude.{ℕ, ◌==◌, ◌&&◌, Bool, true, false, not, List, None}
 use Rattle.std.specs.List.{list_any}
 use Rattle.std.specs.Str.{bytes_eq}
 use Rattle.sshcore.specs.ConfigParts.{ByKey, ByNothing, ByPassword, CredentialData}
@@ -42,4 +42,5 @@ lab_policy rules = record {
   host_key = λ algorithm blob. not (list_any (λ name. bytes_eq name algorithm) rules.distrusted);
   user = λ number user service proof.
       list_any (λ allowance. accepts allowance user proof) rules.allowed && not (list_any (λ denied. denied == number) rules.denied);
+  signature = λ number algorithm blob input. None;
 }

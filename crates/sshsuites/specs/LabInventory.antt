@@ -1,4 +1,4 @@
--- What the insecure suites have: every name, and every key, since they have an answer for each.
+-- What the insecure suites have: every name, since they have an answer for each.
 
 use Rattle.std.specs.Prelude.{true}
 use Rattle.sshpacket.specs.Inventory.{InventoryData}
@@ -7,5 +7,4 @@ abbrev pub lab_inventory : InventoryData
 lab_inventory = record {
   has_cipher = λ cipher. true;
   has_kex = λ kex. true;
-  holds = λ algorithm secret. true;
 }

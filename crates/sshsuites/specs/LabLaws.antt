@@ -271,5 +271,6 @@ lab_agreeing = record {
     responds = ap (option_map (response_with (lab_share server))) (shared_of server client h);
     same = agreed client server h k ∙ shared_of server client h;
   };
+  held = λ alg secret. refl;
   signed = λ alg secret input. same_bytes (signature_by (lab_blob alg secret) input);
 }

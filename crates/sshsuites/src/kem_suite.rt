@@ -142,6 +142,10 @@ impl Suite for KemSuite {
         LabSuite.blob(alloc, alg, secret)
     }
 
+    fn holds(&self, _alg: &str, _secret: &[u8]) -> bool {
+        true
+    }
+
     fn sign(
         &self,
         alloc: Global,

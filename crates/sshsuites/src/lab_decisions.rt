@@ -122,6 +122,17 @@ impl Decisions for LabDecisions {
         let denied = is_denied(&self.denied, request_number);
         allowed && !denied
     }
+
+    fn signature(
+        &self,
+        _alloc: Global,
+        _number: usize,
+        _algorithm: &str,
+        _blob: &[u8],
+        _input: &[u8],
+    ) -> Result<Option<Vec<u8>>, Memory> {
+        Ok(None)
+    }
 }
 
 /// What a request proves that is made so.

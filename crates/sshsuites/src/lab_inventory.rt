@@ -7,7 +7,7 @@ use crate::kem_suite::KemSuite;
 use crate::lab_suite::LabSuite;
 use sshpacket::Inventory;
 
-/// Every name, and every key: the suite has an answer for each.
+/// Every name: the suite has an answer for each.
 impl Inventory for LabSuite {
     ghost inventory = { λ _. lab_inventory };
 
@@ -18,13 +18,9 @@ impl Inventory for LabSuite {
     fn has_kex(&self, _kex: &str) -> bool {
         true
     }
-
-    fn holds(&self, _algorithm: &str, _private_key: &[u8]) -> bool {
-        true
-    }
 }
 
-/// Every name, and every key, as [`LabSuite`] has.
+/// Every name, as [`LabSuite`] has.
 impl Inventory for KemSuite {
     ghost inventory = { λ _. lab_inventory };
 
@@ -33,10 +29,6 @@ impl Inventory for KemSuite {
     }
 
     fn has_kex(&self, _kex: &str) -> bool {
-        true
-    }
-
-    fn holds(&self, _algorithm: &str, _private_key: &[u8]) -> bool {
         true
     }
 }

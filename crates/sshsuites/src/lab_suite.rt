@@ -160,6 +160,10 @@ impl Suite for LabSuite {
         blob(alloc, alg, secret)
     }
 
+    fn holds(&self, _alg: &str, _secret: &[u8]) -> bool {
+        true
+    }
+
     #[tactic(auto, using(crate::specs::LabLaws::blob_length))]
     fn sign(
         &self,

@@ -24,4 +24,6 @@ mod pauses;
 #[cfg(test)]
 mod replays;
 #[cfg(test)]
+mod signatures;
+#[cfg(test)]
 mod version_lines;

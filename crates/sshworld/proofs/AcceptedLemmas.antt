@@ -27,7 +27,6 @@ use Rattle.sshneg.proofs.FirstLemmas.{contains_in}
 use Rattle.sshpacket.specs.Shares.{IsShare}
 use Rattle.sshpacket.specs.Suite.{Agrees, IsAgreeing, IsLawful, ResponseData, SuiteData, has_number_shares, shares_number}
 use Rattle.sshcore.specs.declared.config_fault.ConfigFault.TheVariants as fault
-use Rattle.sshcore.specs.Attempts.{method_by}
 use Rattle.sshcore.specs.ConfigParts.{AttemptData, ByKey, ByNothing, ByPassword, ClientData, CredentialData, ServerData, client_offer, server_offer}
 use Rattle.sshcore.specs.ConfigRules.{HasShortPassword, IsClient, IsNamed, IsServer, IsUnmarked}
 use Rattle.sshcore.specs.Counting.{switched_out}
@@ -37,6 +36,7 @@ use Rattle.sshcore.specs.Plan.{after_query, unasked}
 use Rattle.sshcore.specs.Work.{init_in, reply_in}
 use Rattle.sshworld.specs.Agreement.{answer_of_server, host_key_of_server, session_between}
 use Rattle.sshworld.specs.Follows.{BothFollow}
+use Rattle.sshworld.specs.Held.{IsHeld, held_method}
 use Rattle.sshworld.specs.Judging.{is_proved}
 use Rattle.sshworld.specs.Offered.{offered}
 use Rattle.sshworld.specs.Placed.{BothInPlace, HaveSameKeys, sent_by_client, sent_by_server}
@@ -153,7 +153,7 @@ module _ (m : SuiteData) (law : IsLawful m) (below : Below m) (c : ClientData) (
       subst (λ (o : Option ResponseData). IsShare (has_number_shares (m.share_form kex)) (answer_or o).share) (sym g.responds) answered.0
 
   method_well : (session : List ℕ) (r : AttemptData) (p : CredentialData) → IsNamed p → HasShortPassword p
-      → IsString (method_name (method_by m session r.user r.service p)) × IsMethod (method_by m session r.user r.service p)
+      → IsString (method_name (held_method m session r.user r.service p)) × IsMethod (held_method m session r.user r.service p)
   method_well session r ByNothing named short = (omega arith, tt)
   method_well session r (ByPassword password) named short = (omega arith, omega (arith, short))
   method_well session r (ByKey algorithm secret true) named short =
@@ -182,7 +182,7 @@ module _ (m : SuiteData) (law : IsLawful m) (below : Below m) (c : ClientData) (
         requests = λ i r e form.
             let named = named_at i r e in
             let w = method_well (session_between m c s a) r r.proving named.1 (of_plan d (λ (a : AttemptData). HasShortPassword a.proving) (λ r h. unasked_short r.proving h) (client.keeps fault.Secret) i r e) in
-            below.again form (UserauthRequest r.user r.service (method_by m (session_between m c s a) r.user r.service r.proving)) tt
+            below.again form (UserauthRequest r.user r.service (held_method m (session_between m c s a) r.user r.service r.proving)) tt
             ((of_plan d (λ (a : AttemptData). IsUtf8 a.user) (λ r h. h) client.users i r e, omega (arith, of_plan d (λ (a : AttemptData). length a.user ≤ 255) (λ r h. h) (client.keeps fault.User) i r e)), (omega (arith, named.0.short), (w.0, w.1)));
       }
     where
@@ -215,11 +215,22 @@ can_sign_each : (m : SuiteData) → IsAgreeing m → (plan : List AttemptData) �
 can_sign_each m agrees [] = tt
 can_sign_each m agrees (a ∷ later) = (can_sign m agrees a.proving, can_sign_each m agrees later)
 
+held_by : (m : SuiteData) → IsAgreeing m → (p : CredentialData) → IsHeld m p
+held_by m agrees ByNothing = tt
+held_by m agrees (ByPassword password) = tt
+held_by m agrees (ByKey algorithm secret ask) = agrees.held algorithm secret
+
+held_each : (m : SuiteData) → IsAgreeing m → (plan : List AttemptData) → AllByRecursion (λ (r : AttemptData). IsHeld m r.proving) plan
+held_each m agrees [] = tt
+held_each m agrees (a ∷ later) = (held_by m agrees a.proving, held_each m agrees later)
+
 pub understood_by : (m : SuiteData) (d : DecisionsData) (c : ClientData) (s : ServerData) → IsAgreeing m → IsClient c → IsServer s → AreUnderstood m d c s
 understood_by m d c s agrees client server = record {
   exchange = λ a chosen. agrees.agreed a.kex c.side.random s.side.random (client.keeps fault.Random).random (server.keeps fault.Random).random client.bytes.random server.bytes.random;
   host_key = λ a chosen trusted. agrees.signed a.host_key (secret_of s.host_keys a.host_key);
   plan = can_sign_each m agrees c.plan;
+  host_key_held = λ a chosen. agrees.held a.host_key (secret_of s.host_keys a.host_key);
+  plan_held = held_each m agrees c.plan;
 }
 
 pub accepted_follow : (m : SuiteData) → IsLawful m → Below m → (d : DecisionsData) (c : ClientData) (s : ServerData) → AreUnderstood m d c s → IsClient c → IsServer s → BothFollow m d c s (wording_of m d c s)

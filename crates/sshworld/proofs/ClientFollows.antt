@@ -13,7 +13,7 @@ use Rattle.sshpacket.specs.Stream.{Units}
 use Rattle.sshpacket.specs.Suite.{SuiteData}
 use Rattle.sshcore.specs.declared.end.Fault.TheVariants as fault
 use Rattle.sshcore.specs.declared.table.Phase.TheVariants as phase
-use Rattle.sshcore.specs.Attempts.{attempt_reply, request_of}
+use Rattle.sshcore.specs.Attempts.{attempt_reply}
 use Rattle.sshcore.specs.ConfigParts.{AttemptData, ClientData, ServerData, client_offer, server_offer, version_of}
 use Rattle.sshcore.specs.EndData.{EndData, Failed, goes}
 use Rattle.sshcore.specs.EndpointParts.{DecisionsData, client_setup, config_of_client, config_of_server}
@@ -23,15 +23,17 @@ use Rattle.sshworld.specs.Agreement.{host_key_of_server, session_between}
 use Rattle.sshworld.specs.Course.{Part, client_early, client_last, client_next, client_no_choice, client_no_trust, client_receives, client_requests, group_at, guessed, init_anew, received_last, server_next, server_no_choice, server_no_trust, server_requests}
 use Rattle.sshworld.specs.Follows.{FollowsPart, IsAsPart, units_of}
 use Rattle.sshworld.specs.Guesses.{Guess, NoGuess, RightGuess, WrongGuess, guess_by}
+use Rattle.sshworld.specs.Held.{held_request}
 use Rattle.sshworld.specs.Offered.{offered}
 use Rattle.sshworld.specs.Outcome.{case_of_how, ends_of_case}
 use Rattle.sshworld.specs.Understood.{AreUnderstood}
 use Rattle.sshworld.specs.Verdicts.{Exhausted, How, Verdict, verdict}
 use Rattle.sshworld.specs.Wording.{Wording}
 use Rattle.sshworld.specs.Wordings.{request_or, wording_with}
-use Rattle.sshworld.proofs.ClientRequests.{client_loop, receives_many}
+use Rattle.sshworld.proofs.ClientRequests.{client_loop, held_at, receives_many}
 use Rattle.sshworld.proofs.CountLemmas.{counted_offered}
 use Rattle.sshworld.proofs.CourseLemmas.{answers_sent, next_in, next_last}
+use Rattle.sshworld.proofs.HeldLemmas.{attempt_held}
 use Rattle.sshworld.proofs.JudgedLemmas.{get_in}
 use Rattle.sshworld.proofs.MessageLemmas.{client_accepted, client_exchanges, client_first, client_greeted, client_refuses, client_trusts, client_view, switched, switches}
 use Rattle.sshworld.proofs.OfferedLemmas.{IsLeft, left_none, left_some, offered_is}
@@ -159,7 +161,7 @@ module _ (m : SuiteData) (d : DecisionsData) (c : ClientData) (s : ServerData) (
           let made = counted_offered m d c s in
           let empty : c.plan ≡ [] = left_none m d s (offered m d s c.plan) c.plan 0 rest_is (omega (arith, made.none_offered none)) in (
             as_last (client_setup m d c) p (version_of s.side ∷ pre) w.service_accept (w.disconnect 14 ∷ []) (Failed fault.NoMoreMethods)
-                ((client_accepted m d c s understood sound offers a chosen readable pre (session_between m c s a) c.plan switched_view).0 ∙ ap (λ (l : List AttemptData). attempt_reply m (session_between m c s a) l) empty)
+                ((client_accepted m d c s understood sound offers a chosen readable pre (session_between m c s a) c.plan switched_view).0 ∙ ap (λ (l : List AttemptData). attempt_reply m d (session_between m c s a) l) empty)
                 (next_last w v 0 (sym none) ∙ ap (λ h. client_last w h) (made.none_left none)) (ap (λ (n : ℕ). client_receives w n) (sym none)) (final Exhausted (made.none_left none)),
             tt,
           )
@@ -170,11 +172,11 @@ module _ (m : SuiteData) (d : DecisionsData) (c : ClientData) (s : ServerData) (
           let made = counted_offered m d c s in
           let x = get_in (offered m d s c.plan) 0 (omega (arith, more, made.most)) in
           let l = left_some m d s (offered m d s c.plan) c.plan 0 x.0 rest_is x.1 in
-          let one : client_next w v 0 ≡ request_of m (session_between m c s a) x.0 ∷ [] = next_in w v 0 more ∙ ap (λ (o : Option AttemptData). request_or m (session_between m c s a) o ∷ []) x.1 in
+          let one : client_next w v 0 ≡ held_request m (session_between m c s a) x.0 ∷ [] = next_in w v 0 more ∙ ap (λ (o : Option AttemptData). request_or m (session_between m c s a) o ∷ []) x.1 in
           let n = receives_many w v.requests more in
           let accepted = client_accepted m d c s understood sound offers a chosen readable pre (session_between m c s a) c.plan switched_view in (
-            as_open (client_setup m d c) p (version_of s.side ∷ pre) w.service_accept (request_of m (session_between m c s a) x.0 ∷ [])
-                (accepted.0 ∙ ap (λ (l : List AttemptData). attempt_reply m (session_between m c s a) l) l.1) one (omega (arith, more, n)),
+            as_open (client_setup m d c) p (version_of s.side ∷ pre) w.service_accept (held_request m (session_between m c s a) x.0 ∷ [])
+                (accepted.0 ∙ attempt_held m d (session_between m c s a) c.plan x.0 l.0 l.1 (held_at m d c s understood 0 x.0 x.1)) one (omega (arith, more, n)),
             greeted s.banner refl made.most more accepted.1,
           )
         where

@@ -9,7 +9,7 @@ use Rattle.sshpacket.specs.Places.{EachPlace}
 use Rattle.sshpacket.specs.Stream.{Units}
 use Rattle.sshpacket.specs.Suite.{SuiteData}
 use Rattle.sshcore.specs.declared.table.Phase.TheVariants as phase
-use Rattle.sshcore.specs.Attempts.{attempt_reply, request_of}
+use Rattle.sshcore.specs.Attempts.{attempt_reply}
 use Rattle.sshcore.specs.ConfigParts.{AttemptData, ByKey, ByNothing, ByPassword, ClientData, CredentialData, ServerData, client_offer, server_offer, version_of}
 use Rattle.sshcore.specs.EndData.{Authenticated, EndData}
 use Rattle.sshcore.specs.EndpointParts.{DecisionsData, client_setup}
@@ -20,6 +20,7 @@ use Rattle.sshworld.specs.Agreement.{agreed, session_between}
 use Rattle.sshworld.specs.Course.{Part, client_early, client_last, client_next, client_receives, client_requests, server_last, server_next}
 use Rattle.sshworld.specs.Follows.{IsAsPart}
 use Rattle.sshworld.specs.Guesses.{Guess}
+use Rattle.sshworld.specs.Held.{IsHeld, held_request}
 use Rattle.sshworld.specs.Judging.{is_proved}
 use Rattle.sshworld.specs.Offered.{is_confirmed, offered}
 use Rattle.sshworld.specs.Outcome.{case_of_how, ends_of_case}
@@ -29,15 +30,20 @@ use Rattle.sshworld.specs.Wording.{Wording}
 use Rattle.sshworld.specs.Wordings.{answer_or, answer_to, request_or, wording_with}
 use Rattle.sshworld.proofs.CountLemmas.{counted_offered, success_of}
 use Rattle.sshworld.proofs.CourseLemmas.{answer_in, answer_last, early_length, next_in, next_last}
+use Rattle.sshworld.proofs.HeldLemmas.{attempt_held, held_itself}
 use Rattle.sshworld.proofs.JudgedLemmas.{brings_at, client_strict, get_in}
 use Rattle.sshworld.proofs.MessageLemmas.{client_confirmed, client_failed, client_succeeds, client_view, closed, fourteen_read, seven_read}
-use Rattle.sshworld.proofs.OfferedLemmas.{IsLeft, left_confirmed, left_none, left_refused, left_some}
+use Rattle.sshworld.proofs.OfferedLemmas.{IsLeft, offered_each, left_confirmed, left_none, left_refused, left_some}
 use Rattle.sshworld.proofs.PartLemmas.{as_last, as_open, from, group_after}
 use Rattle.sshworld.proofs.Readable.{AreOffersRead, AreSound, IsRead, ReadsAgain}
 
 pub receives_many : (w : Wording) (n : ℕ) → 0 < n → client_receives w n ≡ 5 + length w.banner + n
 receives_many w zero h = absurd (omega (arith, h))
 receives_many w (suc n) h = refl
+
+-- the suite holds the key of each request
+pub held_at : (m : SuiteData) (d : DecisionsData) (c : ClientData) (s : ServerData) → AreUnderstood m d c s → (j : ℕ) (x : AttemptData) → slice_get (offered m d s c.plan) j ≡ Some x → IsHeld m x.proving
+held_at m d c s understood j x at = offered_each m d s (λ (r : AttemptData). IsHeld m r.proving) (held_itself m) c.plan understood.plan_held j x at
 
 module _ (m : SuiteData) (d : DecisionsData) (c : ClientData) (s : ServerData) (understood : AreUnderstood m d c s) (sound : AreSound c s) (offers : AreOffersRead c s)
     (a : AlgorithmsData) (chosen : choice m (client_offer c) (server_offer s) ≡ Ok a) (readable : IsRead m d c s a) (guess : Guess) (end : EndData)
@@ -66,7 +72,7 @@ module _ (m : SuiteData) (d : DecisionsData) (c : ClientData) (s : ServerData) (
   -- What the client does at the answer to request j, which ends nothing: it makes the first attempt of what is left then.
   record Answered (before : Units) (j : ℕ) (payload : List ℕ) : Type 0 where
     left : List AttemptData
-    reply : reply_at (client_setup m d c) (version_of s.side) before payload ≡ attempt_reply m (session_between m c s a) left
+    reply : reply_at (client_setup m d c) (version_of s.side) before payload ≡ attempt_reply m d (session_between m c s a) left
     here : sits (before ++ payload ∷ []) left
     rest : is_left left (j + 1)
 
@@ -160,7 +166,7 @@ module _ (m : SuiteData) (d : DecisionsData) (c : ClientData) (s : ServerData) (
       let f = answered before j left x.0 here rest x.1 in
       let none : f.left ≡ [] = left_none m d s (offered m d s c.plan) f.left (j + 1) f.rest (omega (arith, all, made.all_made is)) in (
         as_last (client_setup m d c) p (version_of s.side ∷ before) (w.refusal j) (w.disconnect 14 ∷ []) _
-            (f.reply ∙ ap (λ (l : List AttemptData). attempt_reply m (session_between m c s a) l) none)
+            (f.reply ∙ ap (λ (l : List AttemptData). attempt_reply m d (session_between m c s a) l) none)
             (group_is before j at ∙ next_last w v (j + 1) all ∙ ap (λ h. client_last w h) is)
             (let n = receives_many w v.requests (omega (arith, all)) in omega (arith, at, all, n)) (final Exhausted is),
         tt,
@@ -178,10 +184,10 @@ module _ (m : SuiteData) (d : DecisionsData) (c : ClientData) (s : ServerData) (
       let x = get_in (offered m d s c.plan) (j + 1) (omega (arith, more, most)) in
       let f = answered before j left old.0 here rest old.1 in
       let l = left_some m d s (offered m d s c.plan) f.left (j + 1) x.0 f.rest x.1 in
-      let one : client_next w v (j + 1) ≡ request_of m (session_between m c s a) x.0 ∷ [] = next_in w v (j + 1) more ∙ ap (λ (o : Option AttemptData). request_or m (session_between m c s a) o ∷ []) x.1 in
+      let one : client_next w v (j + 1) ≡ held_request m (session_between m c s a) x.0 ∷ [] = next_in w v (j + 1) more ∙ ap (λ (o : Option AttemptData). request_or m (session_between m c s a) o ∷ []) x.1 in
       subst (λ (g : Units). EachPlace Q (version_of s.side ∷ before) (g ++ from (server_next w v) (suc j) (suc r))) (sym (answer_in w v j more)) (
-        as_open (client_setup m d c) p (version_of s.side ∷ before) (w.refusal j) (request_of m (session_between m c s a) x.0 ∷ [])
-            (f.reply ∙ ap (λ (l : List AttemptData). attempt_reply m (session_between m c s a) l) l.1) (group_is before j at ∙ one)
+        as_open (client_setup m d c) p (version_of s.side ∷ before) (w.refusal j) (held_request m (session_between m c s a) x.0 ∷ [])
+            (f.reply ∙ attempt_held m d (session_between m c s a) f.left x.0 l.0 l.1 (held_at m d c s understood (j + 1) x.0 x.1)) (group_is before j at ∙ one)
             (let n = receives_many w v.requests (omega (arith, more)) in omega (arith, at, more, n)),
         client_loop (suc r) (suc j) (omega (arith, sum)) most (before ++ w.refusal j ∷ []) f.left f.here
             (subst (λ (n : ℕ). is_left f.left n) (let e : j + 1 ≡ suc j = omega arith in e) f.rest)

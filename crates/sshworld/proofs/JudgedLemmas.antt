@@ -18,7 +18,7 @@ use Rattle.sshneg.specs.Strictness.{is_strict}
 use Rattle.sshpacket.specs.Suite.{SuiteData}
 use Rattle.sshpacket.proofs.Places.{flat-push}
 use Rattle.sshcore.specs.declared.end.Fault.TheVariants as fault
-use Rattle.sshcore.specs.Attempts.{agreed_by, method_by}
+use Rattle.sshcore.specs.Attempts.{agreed_by}
 use Rattle.sshcore.specs.ConfigParts.{AttemptData, ByKey, ByNothing, ByPassword, ClientData, CredentialData, ServerData, client_offer, own_marker, server_offer}
 use Rattle.sshcore.specs.EndData.{AgreedData, Authenticated, Reply, fails, goes}
 use Rattle.sshcore.specs.Known.{Known}
@@ -30,6 +30,7 @@ use Rattle.sshcore.specs.Tries.{is_decided, is_successful_at, proof_in, tried_wi
 use Rattle.sshcore.proofs.ReachedLemmas.{complete_is}
 use Rattle.sshworld.specs.Agreement.{agreed, session_between}
 use Rattle.sshworld.specs.Course.{received_last}
+use Rattle.sshworld.specs.Held.{held_method}
 use Rattle.sshworld.specs.Judging.{is_proved, is_successful, is_usable, proved_by}
 use Rattle.sshworld.specs.Offered.{offered}
 use Rattle.sshworld.specs.Understood.{CanSign}
@@ -94,7 +95,7 @@ how_reply m d c s a made r (Some Limit) = fails fault.TooManyTries
 how_reply m d c s a made r (Some Exhausted) = goes []
 
 -- the method of a request has the name of its attempt's
-method_named : (m : SuiteData) (session user service : List ℕ) (p : CredentialData) → method_name (method_by m session user service p) ≡ proving_name p
+method_named : (m : SuiteData) (session user service : List ℕ) (p : CredentialData) → method_name (held_method m session user service p) ≡ proving_name p
 method_named m session user service ByNothing = refl
 method_named m session user service (ByPassword password) = refl
 method_named m session user service (ByKey algorithm secret true) = refl
@@ -102,7 +103,7 @@ method_named m session user service (ByKey algorithm secret false) = refl
 
 module _ (m : SuiteData) (d : DecisionsData) (c : ClientData) (s : ServerData) (sound : AreSound c s) (a : AlgorithmsData) (session : List ℕ) where
   successful_same : (n : ℕ) (user service : List ℕ) (p : CredentialData) → IsTestedName p → CanSign m p
-      → is_successful_at m d (config_of_server s) session n user service (method_by m session user service p) ≡ (not (asks p) && (is_usable m s.methods p && d.user n user service (proved_by m p)))
+      → is_successful_at m d (config_of_server s) session n user service (held_method m session user service p) ≡ (not (asks p) && (is_usable m s.methods p && d.user n user service (proved_by m p)))
   unfolding proof_in
   successful_same n user service ByNothing named signs = refl
   successful_same n user service (ByPassword password) named signs = decided_if (d.user n user service (PasswordProof password)) (λ o. is_decided d n user service o) (PasswordProof password) refl refl (is_in s.methods (codes "password"))
@@ -117,10 +118,10 @@ module _ (m : SuiteData) (d : DecisionsData) (c : ClientData) (s : ServerData) (
 
   -- what a request came to is the same at the endpoint and by the configs
   pub tried_same : (made : List AttemptData) (n : ℕ) (r : AttemptData) → n ≡ length made + 1 → IsTestedName r.proving → CanSign m r.proving
-      → tried_with r.user r.service (method_by m session r.user r.service r.proving) (is_successful_at m d (config_of_server s) session n r.user r.service (method_by m session r.user r.service r.proving)) ≡ tried_by m d s made r
+      → tried_with r.user r.service (held_method m session r.user r.service r.proving) (is_successful_at m d (config_of_server s) session n r.user r.service (held_method m session r.user r.service r.proving)) ≡ tried_by m d s made r
   tried_same made n r at named signs =
-      ap (λ (b : Bool). tried_with r.user r.service (method_by m session r.user r.service r.proving) b) (successful_same n r.user r.service r.proving named signs)
-      ∙ ap (λ (k : ℕ). tried_with r.user r.service (method_by m session r.user r.service r.proving) (is_successful m d s k r)) at
+      ap (λ (b : Bool). tried_with r.user r.service (held_method m session r.user r.service r.proving) b) (successful_same n r.user r.service r.proving named signs)
+      ∙ ap (λ (k : ℕ). tried_with r.user r.service (held_method m session r.user r.service r.proving) (is_successful m d s k r)) at
       ∙ ap (λ (name : List ℕ). record { user = r.user; service = r.service; successful = if is_successful m d s (length made + 1) r then Some name else None }) (method_named m session r.user r.service r.proving)
 
   pub tried_more : (made : List AttemptData) (r : AttemptData) → tried_of m d s (made ++ r ∷ []) ≡ tried_of m d s made ++ tried_by m d s made r ∷ []
@@ -145,7 +146,7 @@ module _ (m : SuiteData) (d : DecisionsData) (c : ClientData) (s : ServerData) (
 
     module _ (r : AttemptData) (granted : length made + 1 ≤ s.tries) where
       abbrev method : MethodData
-      method = method_by m session r.user r.service r.proving
+      method = held_method m session r.user r.service r.proving
 
       -- all required methods are reached after a successful request
       done_same : (b : Bool) → is_successful m d s (length made + 1) r ≡ b → (b && completes (config_of_server s) k r.user r.service method b) ≡ is_accepted m d s made r
@@ -191,7 +192,7 @@ module _ (m : SuiteData) (d : DecisionsData) (c : ClientData) (s : ServerData) (
         rw (named, short) (and_apart (is_in s.methods (codes "publickey")) (m.can algorithm).signature (d.user (length made + 1) user service (KeyProof algorithm (m.blob algorithm secret))))
 
     method_same : (user service : List ℕ) (p : CredentialData) → IsTestedName p → CanSign m p → HasShortBlob m p → length made + 1 ≤ s.tries → agreed_by k user service ≡ agreed m c s a (record { user = user; service = service; proving = p })
-        → method_reply m d (config_of_server s) k user service (method_by m session user service p)
+        → method_reply m d (config_of_server s) k user service (held_method m session user service p)
         ≡ how_reply m d c s a made (record { user = user; service = service; proving = p })
         (if is_accepted m d s made (record { user = user; service = service; proving = p }) then Some (Success (record { user = user; service = service; proving = p }))
         else (if length made + 1 == s.tries then Some Limit else None))
@@ -208,7 +209,7 @@ module _ (m : SuiteData) (d : DecisionsData) (c : ClientData) (s : ServerData) (
 
     pub judged : (r : AttemptData) → IsTestedName r.proving → CanSign m r.proving → HasShortBlob m r.proving → length made + 1 ≤ s.tries
         → session ≡ session_between m c s a → strict ≡ is_strict s.side.strict Server (client_offer c)
-        → request_reply m d (config_of_server s) k r.user r.service (method_by m session r.user r.service r.proving) ≡ how_reply m d c s a made r (ends_by m d s made r)
+        → request_reply m d (config_of_server s) k r.user r.service (held_method m session r.user r.service r.proving) ≡ how_reply m d c s a made r (ends_by m d s made r)
     unfolding request_reply
     judged r named signs short granted es et = by (is_in s.services r.service)
       where
@@ -217,7 +218,7 @@ module _ (m : SuiteData) (d : DecisionsData) (c : ClientData) (s : ServerData) (
             ap (λ (b : Bool). record { algorithms = a; strict = b; session = session; user = r.user; service = r.service }) (et ∙ server_strict c s sound)
             ∙ ap (λ (h : List ℕ). record { algorithms = a; strict = c.side.strict && s.side.strict; session = h; user = r.user; service = r.service }) es
 
-        by : (has : Bool) → cond has (method_reply m d (config_of_server s) k r.user r.service (method_by m session r.user r.service r.proving)) (fails fault.Service)
+        by : (has : Bool) → cond has (method_reply m d (config_of_server s) k r.user r.service (held_method m session r.user r.service r.proving)) (fails fault.Service)
             ≡ how_reply m d c s a made r (if not has then Some Unknown else (if is_accepted m d s made r then Some (Success r) else (if length made + 1 == s.tries then Some Limit else None)))
         by true = method_same r.user r.service r.proving named signs short granted agreed_is
         by false = refl

@@ -14,6 +14,7 @@ pub mod CourseLaws
 pub mod StepLemmas
 pub mod RequestLemmas
 pub mod OfferedLemmas
+pub mod HeldLemmas
 pub mod LinkLemmas
 pub mod PartLemmas
 pub mod FollowsLemmas

@@ -29,10 +29,10 @@ use Rattle.sshcore.specs.declared.end.Fault.TheVariants as fault
 use Rattle.sshcore.specs.declared.table.Line.TheVariants as line
 use Rattle.sshcore.specs.declared.table.Phase.{Phase}
 use Rattle.sshcore.specs.declared.table.Phase.TheVariants as phase
-use Rattle.sshcore.specs.Attempts.{attempt_reply, method_by, request_of}
+use Rattle.sshcore.specs.Attempts.{attempt_reply}
 use Rattle.sshcore.specs.ConfigParts.{AttemptData, ByKey, ClientData, ServerData, client_offer, own_marker, server_offer, version_of}
 use Rattle.sshcore.specs.EndData.{Authenticated, Closed, fails, goes}
-use Rattle.sshcore.specs.Exchange.{answer_or, answer_with, chosen_or, exchange_with, shares_by}
+use Rattle.sshcore.specs.Exchange.{answer_or, answer_with, chosen_or, exchange_with, secret_of, shares_by}
 use Rattle.sshcore.specs.Known.{Known}
 use Rattle.sshcore.specs.EndpointParts.{ConfigData, DecisionsData, Setup, client_setup, config_of_client, config_of_server, server_setup}
 use Rattle.sshcore.specs.Phases.{leaving}
@@ -43,13 +43,15 @@ use Rattle.sshcore.specs.Requests.{request_reply}
 use Rattle.sshcore.specs.Standing.{LeavesNone, Sits, exchange_received}
 use Rattle.sshcore.specs.Table.{line_by, is_ignorable}
 use Rattle.sshcore.specs.Tries.{is_successful_at, tried_with}
-use Rattle.sshcore.specs.Work.{answered_by, asks_by, asks_for_extensions, banner_by, chosen_reply, init_for, init_in, init_reply, reply_in, reply_reply, signed_by, told_by, trusted_by, userauth, work}
+use Rattle.sshcore.specs.Work.{answered_by, asks_by, asks_for_extensions, banner_by, chosen_reply, init_for, init_in, init_reply, reply_in, reply_reply, signed_by, signed_reply, told_by, trusted_by, userauth, work}
 use Rattle.sshcore.proofs.ExtensionLemmas.{told_unasked}
 use Rattle.sshcore.proofs.ReachedLemmas.{bytes_self}
 use Rattle.sshworld.specs.Agreement.{answer_of_server, exchange_between, host_key_of_server, session_between}
+use Rattle.sshworld.specs.Held.{held_method, held_request}
 use Rattle.sshworld.specs.Offered.{offered}
 use Rattle.sshworld.specs.Understood.{AreUnderstood}
 use Rattle.sshworld.specs.Wordings.{reply_of_server, signature_of_server}
+use Rattle.sshworld.proofs.HeldLemmas.{signed_held}
 use Rattle.sshworld.proofs.Readable.{AreOffersRead, AreSound, IsRead, ReadsAgain}
 use Rattle.sshworld.proofs.StepLemmas.{begins, drops, goes_dropped, goes_exchanged, goes_leaving, goes_staying, reads, replies_first}
 
@@ -110,7 +112,7 @@ init_begins Hybrid e = refl
 pub init_kind : (m : SuiteData) (own : ConfigData) (kex : List ℕ) → kind (init_for m own kex) ≡ 30
 init_kind m own kex = init_begins (m.share_form kex) (m.share kex own.random)
 
-work_init : (setup : Setup) (x : Known) (f : ShareForm) (e : List ℕ) → work setup x (init_in f e) ≡ init_reply setup.suite setup.role setup.config x (init_in f e)
+work_init : (setup : Setup) (x : Known) (f : ShareForm) (e : List ℕ) → work setup x (init_in f e) ≡ init_reply setup.suite setup.decisions setup.role setup.config x (init_in f e)
 unfolding work
 work_init setup x Mpint e = refl
 work_init setup x OctetString e = refl
@@ -364,8 +366,9 @@ module _ (m : SuiteData) (d : DecisionsData) (c : ClientData) (s : ServerData) (
         (ap is_ignorable (init_number (m.share_form a.kex) (m.share a.kex c.side.random))) sits readable.init
         (ap (λ (n : ℕ). line_by Server phase.Exchange (server_unswitched [] 1 nothing_reached).strict false (is_waiting (server_unswitched [] 1 nothing_reached).left) n) (init_number (m.share_form a.kex) (m.share a.kex c.side.random)) ∙ leaving_line _ Server phase.Exchange (server_unswitched [] 1 nothing_reached).strict)
         ∙ work_init (server_setup m d s) (server_unswitched [] 1 nothing_reached) (m.share_form a.kex) (m.share a.kex c.side.random)
-        ∙ ap (λ (x : ExchangeData). answered_by m (config_of_server s) (server_unswitched [] 1 nothing_reached) x (answer_with m Server (config_of_server s) a (Ok (init_in (m.share_form a.kex) (m.share a.kex c.side.random))))) (server_same (m.share_form a.kex))
-        ∙ ap (λ (o : Option ResponseData). answered_by m (config_of_server s) (server_unswitched [] 1 nothing_reached) (exchange_between m c s a) o) (init_answer m Server (config_of_server s) a (m.share_form a.kex) (m.share a.kex c.side.random) ∙ responded)
+        ∙ ap (λ (x : ExchangeData). answered_by m d (config_of_server s) (server_unswitched [] 1 nothing_reached) x (answer_with m Server (config_of_server s) a (Ok (init_in (m.share_form a.kex) (m.share a.kex c.side.random))))) (server_same (m.share_form a.kex))
+        ∙ ap (λ (o : Option ResponseData). answered_by m d (config_of_server s) (server_unswitched [] 1 nothing_reached) (exchange_between m c s a) o) (init_answer m Server (config_of_server s) a (m.share_form a.kex) (m.share a.kex c.side.random) ∙ responded)
+        ∙ ap (signed_reply (config_of_server s) (server_unswitched [] 1 nothing_reached) (exchange_between m c s a)) (signed_held m d 0 a.host_key (secret_of s.host_keys a.host_key) (session_between m c s a) (understood.host_key_held a chosen))
         ∙ ap (λ (told : Units). goes (reply_payload ∷ written_message NewKeys ∷ told)) none_told
 
     -- a wrong guess
@@ -378,7 +381,7 @@ module _ (m : SuiteData) (d : DecisionsData) (c : ClientData) (s : ServerData) (
 
     -- AUTHENTICATION: the client
     pub client_accepted : (before : Units) (session : List ℕ) (plan : List AttemptData) → Sits (client_setup m d c) (version_of s.side) before phase.Service false (client_view session plan)
-        → (reply_at (client_setup m d c) (version_of s.side) before (written_message (ServiceAccept userauth)) ≡ attempt_reply m session plan)
+        → (reply_at (client_setup m d c) (version_of s.side) before (written_message (ServiceAccept userauth)) ≡ attempt_reply m d session plan)
         × Sits (client_setup m d c) (version_of s.side) (before ++ written_message (ServiceAccept userauth) ∷ []) phase.Auth false (client_view session plan)
     unfolding work
     client_accepted before session plan sits = (
@@ -399,7 +402,7 @@ module _ (m : SuiteData) (d : DecisionsData) (c : ClientData) (s : ServerData) (
 
     pub client_failed : (partial : Bool) → ReadsAgain (UserauthFailure s.methods partial) → (before : Units) (session : List ℕ) (plan : List AttemptData)
         → Sits (client_setup m d c) (version_of s.side) before phase.Auth false (client_view session plan)
-        → (reply_at (client_setup m d c) (version_of s.side) before (written_message (UserauthFailure s.methods partial)) ≡ attempt_reply m session (next_after s.methods plan))
+        → (reply_at (client_setup m d c) (version_of s.side) before (written_message (UserauthFailure s.methods partial)) ≡ attempt_reply m d session (next_after s.methods plan))
         × Sits (client_setup m d c) (version_of s.side) (before ++ written_message (UserauthFailure s.methods partial) ∷ []) phase.Auth false (client_view session (next_after s.methods plan))
     unfolding work
     client_failed partial read before session plan sits = (
@@ -412,7 +415,7 @@ module _ (m : SuiteData) (d : DecisionsData) (c : ClientData) (s : ServerData) (
     pub client_confirmed : (user service algorithm secret : List ℕ) (later : List AttemptData) → ReadsAgain (UserauthPkOk algorithm (m.blob algorithm secret)) → (before : Units) (session : List ℕ)
         → Sits (client_setup m d c) (version_of s.side) before phase.Auth false (client_view session (record { user = user; service = service; proving = ByKey algorithm secret true } ∷ later))
         → (reply_at (client_setup m d c) (version_of s.side) before (written_message (UserauthPkOk algorithm (m.blob algorithm secret)))
-        ≡ attempt_reply m session (record { user = user; service = service; proving = ByKey algorithm secret false } ∷ later))
+        ≡ attempt_reply m d session (record { user = user; service = service; proving = ByKey algorithm secret false } ∷ later))
         × Sits (client_setup m d c) (version_of s.side) (before ++ written_message (UserauthPkOk algorithm (m.blob algorithm secret)) ∷ []) phase.Auth false
         (client_view session (record { user = user; service = service; proving = ByKey algorithm secret false } ∷ later))
     unfolding work
@@ -421,7 +424,7 @@ module _ (m : SuiteData) (d : DecisionsData) (c : ClientData) (s : ServerData) (
         let y : AttemptData = record { user = user; service = service; proving = ByKey algorithm secret false } in (
           reads (client_setup m d c) (version_of s.side) before (written_message (UserauthPkOk algorithm (m.blob algorithm secret))) phase.Auth false (client_view session (x ∷ later)) (UserauthPkOk algorithm (m.blob algorithm secret)) refl sits (read (m.share_form a.kex))
               (confirms_line (client_view session (x ∷ later)).strict)
-              ∙ ap (λ (b : Bool). if b then goes (request_of m session y ∷ []) else fails (fault.Unexpected 60)) (and_from (bytes_eq algorithm algorithm) (bytes_eq (m.blob algorithm secret) (m.blob algorithm secret)) (bytes_self algorithm) (bytes_self (m.blob algorithm secret))),
+              ∙ ap (λ (b : Bool). if b then attempt_reply m d session (y ∷ later) else fails (fault.Unexpected 60)) (and_from (bytes_eq algorithm algorithm) (bytes_eq (m.blob algorithm secret) (m.blob algorithm secret)) (bytes_self algorithm) (bytes_self (m.blob algorithm secret))),
           goes_staying (client_setup m d c) (version_of s.side) before (written_message (UserauthPkOk algorithm (m.blob algorithm secret))) phase.Auth (client_view session (x ∷ later)) (UserauthPkOk algorithm (m.blob algorithm secret)) refl sits (read Mpint) stays_60,
         )
 
@@ -446,15 +449,15 @@ module _ (m : SuiteData) (d : DecisionsData) (c : ClientData) (s : ServerData) (
 
     pub server_asked_for : (before : Units) (n i : ℕ) (g : ReachedData) (r : AttemptData) → slice_get (offered m d s c.plan) i ≡ Some r
         → Sits (server_setup m d s) (version_of c.side) before phase.Auth false (server_view (session_between m c s a) n g)
-        → (reply_at (server_setup m d s) (version_of c.side) before (request_of m (session_between m c s a) r)
-        ≡ request_reply m d (config_of_server s) (server_view (session_between m c s a) n g) r.user r.service (method_by m (session_between m c s a) r.user r.service r.proving))
-        × Sits (server_setup m d s) (version_of c.side) (before ++ request_of m (session_between m c s a) r ∷ []) phase.Auth false
-        (server_view (session_between m c s a) (n + 1) (reached_after_one g (tried_with r.user r.service (method_by m (session_between m c s a) r.user r.service r.proving)
-        (is_successful_at m d (config_of_server s) (session_between m c s a) n r.user r.service (method_by m (session_between m c s a) r.user r.service r.proving)))))
+        → (reply_at (server_setup m d s) (version_of c.side) before (held_request m (session_between m c s a) r)
+        ≡ request_reply m d (config_of_server s) (server_view (session_between m c s a) n g) r.user r.service (held_method m (session_between m c s a) r.user r.service r.proving))
+        × Sits (server_setup m d s) (version_of c.side) (before ++ held_request m (session_between m c s a) r ∷ []) phase.Auth false
+        (server_view (session_between m c s a) (n + 1) (reached_after_one g (tried_with r.user r.service (held_method m (session_between m c s a) r.user r.service r.proving)
+        (is_successful_at m d (config_of_server s) (session_between m c s a) n r.user r.service (held_method m (session_between m c s a) r.user r.service r.proving)))))
     unfolding work
     server_asked_for before n i g r at sits = (
-      reads (server_setup m d s) (version_of c.side) before (request_of m (session_between m c s a) r) phase.Auth false (server_view (session_between m c s a) n g) (UserauthRequest r.user r.service (method_by m (session_between m c s a) r.user r.service r.proving)) refl
+      reads (server_setup m d s) (version_of c.side) before (held_request m (session_between m c s a) r) phase.Auth false (server_view (session_between m c s a) n g) (UserauthRequest r.user r.service (held_method m (session_between m c s a) r.user r.service r.proving)) refl
           sits (readable.requests i r at (m.share_form a.kex)) (leaving_line _ Server phase.Auth (server_view (session_between m c s a) n g).strict),
-      goes_leaving (server_setup m d s) (version_of c.side) before (request_of m (session_between m c s a) r) phase.Auth (server_view (session_between m c s a) n g) (UserauthRequest r.user r.service (method_by m (session_between m c s a) r.user r.service r.proving))
+      goes_leaving (server_setup m d s) (version_of c.side) before (held_request m (session_between m c s a) r) phase.Auth (server_view (session_between m c s a) n g) (UserauthRequest r.user r.service (held_method m (session_between m c s a) r.user r.service r.proving))
           sits refl (readable.requests i r at Mpint) refl,
     )

@@ -13,12 +13,12 @@ use Rattle.sshneg.specs.Fields.{AlgorithmsData}
 use Rattle.sshneg.specs.Markers.{strict_marker}
 use Rattle.sshpacket.specs.Suite.{SuiteData}
 use Rattle.sshpacket.specs.declared.limits.TheConstants.{BLOB_LIMIT}
-use Rattle.sshcore.specs.Attempts.{method_by}
 use Rattle.sshcore.specs.ConfigParts.{AttemptData, ByKey, ByNothing, ByPassword, ClientData, CredentialData, ServerData, client_offer, server_offer}
 use Rattle.sshcore.specs.ConfigRules.{IsListed}
 use Rattle.sshcore.specs.EndpointParts.{DecisionsData}
 use Rattle.sshcore.specs.Work.{init_in, reply_in}
 use Rattle.sshworld.specs.Agreement.{answer_of_server, host_key_of_server, session_between}
+use Rattle.sshworld.specs.Held.{held_method}
 use Rattle.sshworld.specs.Offered.{offered}
 use Rattle.sshworld.specs.Wordings.{answer_to, signature_of_server}
 
@@ -61,4 +61,4 @@ pub record IsRead (m : SuiteData) (d : DecisionsData) (c : ClientData) (s : Serv
   pub answers : (i : ℕ) (r : AttemptData) → slice_get (offered m d s c.plan) i ≡ Some r → ReadsAgain (answer_to m d s (take i (offered m d s c.plan)) r)
   pub short : (i : ℕ) (r : AttemptData) → slice_get (offered m d s c.plan) i ≡ Some r → HasShortBlob m r.proving
   pub requests : (i : ℕ) (r : AttemptData) → slice_get (offered m d s c.plan) i ≡ Some r
-      → ReadsAgain (UserauthRequest r.user r.service (method_by m (session_between m c s a) r.user r.service r.proving))
+      → ReadsAgain (UserauthRequest r.user r.service (held_method m (session_between m c s a) r.user r.service r.proving))

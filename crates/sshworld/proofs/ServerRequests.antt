@@ -10,7 +10,6 @@ use Rattle.sshpacket.specs.Places.{EachPlace}
 use Rattle.sshpacket.specs.Stream.{Units}
 use Rattle.sshpacket.specs.Suite.{SuiteData}
 use Rattle.sshcore.specs.declared.table.Phase.TheVariants as phase
-use Rattle.sshcore.specs.Attempts.{method_by, request_of}
 use Rattle.sshcore.specs.ConfigParts.{AttemptData, ByKey, ByNothing, ByPassword, ClientData, CredentialData, ServerData, client_offer, server_offer, version_of}
 use Rattle.sshcore.specs.EndData.{EndData, goes}
 use Rattle.sshcore.specs.EndpointParts.{DecisionsData, config_of_server, server_setup}
@@ -25,6 +24,7 @@ use Rattle.sshworld.specs.Agreement.{session_between}
 use Rattle.sshworld.specs.Course.{Part, client_last, client_next, received_last, server_early, server_last, server_next, server_requests, unanswered}
 use Rattle.sshworld.specs.Follows.{IsAsPart}
 use Rattle.sshworld.specs.Guesses.{Guess, NoGuess, RightGuess, WrongGuess}
+use Rattle.sshworld.specs.Held.{held_method, held_request}
 use Rattle.sshworld.specs.Offered.{offered}
 use Rattle.sshworld.specs.Outcome.{case_of_how, ends_of_case}
 use Rattle.sshworld.specs.Understood.{AreUnderstood, CanSign}
@@ -91,8 +91,8 @@ module _ (m : SuiteData) (d : DecisionsData) (c : ClientData) (s : ServerData) (
 
   -- one request more
   reached_next : (j : ℕ) (x : AttemptData) (at : slice_get (offered m d s c.plan) j ≡ Some x) → length (take j (offered m d s c.plan)) ≡ j
-      → reached_after_one (reached j) (tried_with x.user x.service (method_by m (session_between m c s a) x.user x.service x.proving)
-      (is_successful_at m d (config_of_server s) (session_between m c s a) (j + 1) x.user x.service (method_by m (session_between m c s a) x.user x.service x.proving))) ≡ reached (j + 1)
+      → reached_after_one (reached j) (tried_with x.user x.service (held_method m (session_between m c s a) x.user x.service x.proving)
+      (is_successful_at m d (config_of_server s) (session_between m c s a) (j + 1) x.user x.service (held_method m (session_between m c s a) x.user x.service x.proving))) ≡ reached (j + 1)
   reached_next j x at made_is =
       let made : List AttemptData = take j (offered m d s c.plan) in
       ap (reached_after_one (reached j)) (tried_same m d c s sound a (session_between m c s a) made (j + 1) x (ap (λ (n : ℕ). n + 1) (sym made_is)) (named_at j x at) (signs_at j x at))
@@ -125,43 +125,43 @@ module _ (m : SuiteData) (d : DecisionsData) (c : ClientData) (s : ServerData) (
 
   -- the answer to a request
   answers_here : (before : Units) (j : ℕ) (x : AttemptData) → sits before j → length before ≡ 4 + length (unanswered guess) + j → slice_get (offered m d s c.plan) j ≡ Some x → j < v.requests → v.requests ≤ length (offered m d s c.plan)
-      → Q (version_of c.side ∷ before) (request_of m (session_between m c s a) x)
+      → Q (version_of c.side ∷ before) (held_request m (session_between m c s a) x)
   answers_here before j x here at get more most =
       let made : List AttemptData = take j (offered m d s c.plan) in
       let made_is : length (take j (offered m d s c.plan)) ≡ j = take_length (offered m d s c.plan) j (omega (arith, more, most)) in
-      let reply : reply_at (server_setup m d s) (version_of c.side) before (request_of m (session_between m c s a) x) ≡ how_reply m d c s a (take j (offered m d s c.plan)) x (ends_by m d s (take j (offered m d s c.plan)) x) =
+      let reply : reply_at (server_setup m d s) (version_of c.side) before (held_request m (session_between m c s a) x) ≡ how_reply m d c s a (take j (offered m d s c.plan)) x (ends_by m d s (take j (offered m d s c.plan)) x) =
       (server_asked_for m d c s understood sound offers a chosen readable before (j + 1) j (reached j) x get here).0
-      ∙ ap (λ (n : ℕ). request_reply m d (config_of_server s) (server_view m d c s understood sound offers a chosen readable (session_between m c s a) (n + 1) (reached j)) x.user x.service (method_by m (session_between m c s a) x.user x.service x.proving)) (sym made_is)
+      ∙ ap (λ (n : ℕ). request_reply m d (config_of_server s) (server_view m d c s understood sound offers a chosen readable (session_between m c s a) (n + 1) (reached j)) x.user x.service (held_method m (session_between m c s a) x.user x.service x.proving)) (sym made_is)
       ∙ judged m d c s sound a (session_between m c s a) (version_of c.side) _ _ [] _ false s.side.ignored_limit made x (named_at j x get) (signs_at j x get) (readable.short j x get) (omega (arith, made_is, granted m d c s sound.tries most j more)) refl refl in
       let b = brings_at m d c s j x get in
       elim (dec_lt (j + 1) v.requests) [
         | yes less ↦
-            as_open (server_setup m d s) p (version_of c.side ∷ before) (request_of m (session_between m c s a) x) (w.refusal j ∷ [])
+            as_open (server_setup m d s) p (version_of c.side ∷ before) (held_request m (session_between m c s a) x) (w.refusal j ∷ [])
             (reply ∙ ap (how_reply m d c s a (take j (offered m d s c.plan)) x) (b.before (omega (arith, less))) ∙ refused j x get) (group_is before j at ∙ answer_in w v j less) (omega (arith, at, less))
         | no ge ↦
             let last : j + 1 ≡ v.requests = omega (arith, ge, more) in
             at_last reply last (b.last (omega (arith, last)))
       ]
     where
-      by_how : reply_at (server_setup m d s) (version_of c.side) before (request_of m (session_between m c s a) x) ≡ how_reply m d c s a (take j (offered m d s c.plan)) x (ends_by m d s (take j (offered m d s c.plan)) x)
-          → j + 1 ≡ v.requests → (how : How) → v.how ≡ how → ends_by m d s (take j (offered m d s c.plan)) x ≡ Some how → Q (version_of c.side ∷ before) (request_of m (session_between m c s a) x)
+      by_how : reply_at (server_setup m d s) (version_of c.side) before (held_request m (session_between m c s a) x) ≡ how_reply m d c s a (take j (offered m d s c.plan)) x (ends_by m d s (take j (offered m d s c.plan)) x)
+          → j + 1 ≡ v.requests → (how : How) → v.how ≡ how → ends_by m d s (take j (offered m d s c.plan)) x ≡ Some how → Q (version_of c.side ∷ before) (held_request m (session_between m c s a) x)
       by_how reply last Unknown is e =
-          as_last (server_setup m d s) p (version_of c.side ∷ before) (request_of m (session_between m c s a) x) (w.disconnect 7 ∷ []) _
+          as_last (server_setup m d s) p (version_of c.side ∷ before) (held_request m (session_between m c s a) x) (w.disconnect 7 ∷ []) _
           (reply ∙ ap (how_reply m d c s a (take j (offered m d s c.plan)) x) e) (group_is before j at ∙ answer_last w v j last ∙ ap (λ h. server_last w j h) is) (omega (arith, at, last, ap received_last is)) (final Unknown is)
       by_how reply last (Success q) is e =
-          as_last (server_setup m d s) p (version_of c.side ∷ before) (request_of m (session_between m c s a) x) (w.success ∷ []) _
+          as_last (server_setup m d s) p (version_of c.side ∷ before) (held_request m (session_between m c s a) x) (w.success ∷ []) _
           (reply ∙ ap (how_reply m d c s a (take j (offered m d s c.plan)) x) e) (group_is before j at ∙ answer_last w v j last ∙ ap (λ h. server_last w j h) is) (omega (arith, at, last, ap received_last is)) (final (Success q) is)
       by_how reply last Limit is e =
-          as_last (server_setup m d s) p (version_of c.side ∷ before) (request_of m (session_between m c s a) x) (w.disconnect 14 ∷ []) _
+          as_last (server_setup m d s) p (version_of c.side ∷ before) (held_request m (session_between m c s a) x) (w.disconnect 14 ∷ []) _
           (reply ∙ ap (how_reply m d c s a (take j (offered m d s c.plan)) x) e) (group_is before j at ∙ answer_last w v j last ∙ ap (λ h. server_last w j h) is) (omega (arith, at, last, ap received_last is)) (final Limit is)
       by_how reply last Exhausted is e = absurd (none_exhausts m d s (take j (offered m d s c.plan)) x e)
 
-      at_last : reply_at (server_setup m d s) (version_of c.side) before (request_of m (session_between m c s a) x) ≡ how_reply m d c s a (take j (offered m d s c.plan)) x (ends_by m d s (take j (offered m d s c.plan)) x)
+      at_last : reply_at (server_setup m d s) (version_of c.side) before (held_request m (session_between m c s a) x) ≡ how_reply m d c s a (take j (offered m d s c.plan)) x (ends_by m d s (take j (offered m d s c.plan)) x)
           → j + 1 ≡ v.requests → (ends_by m d s (take j (offered m d s c.plan)) x ≡ Some v.how) ⊎ ((ends_by m d s (take j (offered m d s c.plan)) x ≡ None) × (v.how ≡ Exhausted))
-          → Q (version_of c.side ∷ before) (request_of m (session_between m c s a) x)
+          → Q (version_of c.side ∷ before) (held_request m (session_between m c s a) x)
       at_last reply last (inl e) = by_how reply last v.how refl e
       at_last reply last (inr e) =
-          as_open (server_setup m d s) p (version_of c.side ∷ before) (request_of m (session_between m c s a) x) (w.refusal j ∷ [])
+          as_open (server_setup m d s) p (version_of c.side ∷ before) (held_request m (session_between m c s a) x) (w.refusal j ∷ [])
           (reply ∙ ap (how_reply m d c s a (take j (offered m d s c.plan)) x) e.0 ∙ refused j x get) (group_is before j at ∙ answer_last w v j last ∙ ap (λ h. server_last w j h) e.1) (omega (arith, at, last, ap received_last e.1))
 
   pub server_loop : (r j : ℕ) → j + r ≡ v.requests → v.requests ≤ length (offered m d s c.plan) → (before : Units) → sits before j → length before ≡ 4 + length (unanswered guess) + j
@@ -172,14 +172,14 @@ module _ (m : SuiteData) (d : DecisionsData) (c : ClientData) (s : ServerData) (
   server_loop (suc r) j sum most before here at =
       let more : j < v.requests = omega (arith, sum) in
       let x = get_in (offered m d s c.plan) j (omega (arith, more, most)) in
-      let one : client_next w v j ≡ request_of m (session_between m c s a) x.0 ∷ [] = next_in w v j more ∙ ap (λ (o : Option AttemptData). request_or m (session_between m c s a) o ∷ []) x.1 in
+      let one : client_next w v j ≡ held_request m (session_between m c s a) x.0 ∷ [] = next_in w v j more ∙ ap (λ (o : Option AttemptData). request_or m (session_between m c s a) o ∷ []) x.1 in
       let made_is : length (take j (offered m d s c.plan)) ≡ j = take_length (offered m d s c.plan) j (omega (arith, more, most)) in
-      let next : sits (before ++ request_of m (session_between m c s a) x.0 ∷ []) (suc j) =
-      subst (λ (n : ℕ). sits (before ++ request_of m (session_between m c s a) x.0 ∷ []) n) (let e : j + 1 ≡ suc j = omega arith in e)
-      (subst (λ (g : ReachedData). Sits (server_setup m d s) (version_of c.side) (before ++ request_of m (session_between m c s a) x.0 ∷ []) phase.Auth false
+      let next : sits (before ++ held_request m (session_between m c s a) x.0 ∷ []) (suc j) =
+      subst (λ (n : ℕ). sits (before ++ held_request m (session_between m c s a) x.0 ∷ []) n) (let e : j + 1 ≡ suc j = omega arith in e)
+      (subst (λ (g : ReachedData). Sits (server_setup m d s) (version_of c.side) (before ++ held_request m (session_between m c s a) x.0 ∷ []) phase.Auth false
       (server_view m d c s understood sound offers a chosen readable (session_between m c s a) (j + 1 + 1) g)) (reached_next j x.0 x.1 made_is)
       (server_asked_for m d c s understood sound offers a chosen readable before (j + 1) j (reached j) x.0 x.1 here).1) in
       subst (λ (g : Units). EachPlace Q (version_of c.side ∷ before) (g ++ from (client_next w v) (suc j) (suc r))) (sym one) (
         answers_here before j x.0 here at x.1 more most,
-        server_loop r (suc j) (omega (arith, sum)) most (before ++ request_of m (session_between m c s a) x.0 ∷ []) next (omega (arith, at, length-append before (request_of m (session_between m c s a) x.0 ∷ []))),
+        server_loop r (suc j) (omega (arith, sum)) most (before ++ held_request m (session_between m c s a) x.0 ∷ []) next (omega (arith, at, length-append before (held_request m (session_between m c s a) x.0 ∷ []))),
       )

@@ -1,6 +1,6 @@
 -- Verdicts and courses of plans with key queries and required methods, evaluated.
 
-use Rattle.std.proofs.Common.{◌≡◌, ℕ, ◌==◌, Bool, true, false, List, [], ◌∷◌, ◌++◌, codes, refl}
+use Rattle.std.proofs.Common.{◌≡◌, ℕ, ◌==◌, Bool, true, false, List, [], ◌∷◌, ◌++◌, codes, refl, None}
 use Rattle.std.specs.Prelude.{◌&&◌, ◌||◌, not}
 use Rattle.std.specs.Str.{bytes_eq}
 use Rattle.sshmsg.specs.Written.{written_message}
@@ -34,7 +34,7 @@ module _ (suite : SuiteData) (anyone : ClientData) (any : ServerData) where
   knows user (KeyProof algorithm key) = bytes_eq user (codes "al") && (bytes_eq algorithm (codes "h") && bytes_eq key (66 ∷ 0 ∷ []))
 
   denying : ℕ → DecisionsData
-  denying denied = record { host_key = λ algorithm blob. true; user = λ number user service proof. not (number == denied) && knows user proof }
+  denying denied = record { host_key = λ algorithm blob. true; user = λ number user service proof. not (number == denied) && knows user proof; signature = λ number algorithm blob input. None }
 
   attempt : List ℕ → CredentialData → AttemptData
   attempt user proving = record { user = user; service = service; proving = proving }

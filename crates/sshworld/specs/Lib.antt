@@ -1,4 +1,5 @@
 pub mod Judging
+pub mod Held
 pub mod Offered
 pub mod Verdicts
 pub mod VerdictLaw

@@ -7,12 +7,12 @@ use Rattle.sshneg.specs.declared.choice.NoCommon.{NoCommon}
 use Rattle.sshneg.specs.ChoiceReadings.{choice}
 use Rattle.sshneg.specs.Fields.{AlgorithmsData}
 use Rattle.sshpacket.specs.Suite.{SuiteData}
-use Rattle.sshcore.specs.Attempts.{request_of}
 use Rattle.sshcore.specs.ConfigParts.{AttemptData, ByKey, ByNothing, ByPassword, ClientData, CredentialData, ServerData, client_offer, server_offer}
 use Rattle.sshcore.specs.Exchange.{chosen_or, secret_of}
 use Rattle.sshcore.specs.EndpointParts.{DecisionsData, config_of_client}
 use Rattle.sshcore.specs.Work.{banner_by, guessed_method, init_for, reply_in, userauth}
 use Rattle.sshworld.specs.Agreement.{answer_of_server, host_key_of_server, session_between}
+use Rattle.sshworld.specs.Held.{held_request}
 use Rattle.sshworld.specs.Judging.{is_proved}
 use Rattle.sshworld.specs.Offered.{offered}
 use Rattle.sshworld.specs.Wording.{Wording}
@@ -36,7 +36,7 @@ reply_of_server m client server algorithms =
 
 -- The request of an attempt, where there is one (RFC 4252 section 5).
 abbrev pub request_or : SuiteData → List ℕ → Option AttemptData → List ℕ
-request_or m session (Some attempt) = request_of m session attempt
+request_or m session (Some attempt) = held_request m session attempt
 request_or m session None = []
 
 -- What answers a request that ends nothing, by whether its method may be used and the decision on it is yes: PK_OK to a query whose

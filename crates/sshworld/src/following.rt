@@ -26,7 +26,7 @@ pub fn follows_law()
     ensures keys { (m : SuiteData) (d : DecisionsData) (client : ClientData) (server : ServerData) → IsLawful m → AreUnderstood m d client server
         → IsClient client → IsServer server → (switched_out (sent_by_client m d client server) ≡ true) ⊎ (switched_out (sent_by_server m d client server) ≡ true)
         → HaveSameKeys m Client Server (config_of_client client) (config_of_server server) (sent_by_client m d client server) (sent_by_server m d client server) }
-    // A suite of which all ends agree and all keys sign lets any two understand each other.
+    // A suite of which all ends agree, and which holds all keys and signs by them, lets any two understand each other.
     ensures understood { (m : SuiteData) (d : DecisionsData) (client : ClientData) (server : ServerData) → IsAgreeing m
         → IsClient client → IsServer server → AreUnderstood m d client server }
 {

@@ -7,7 +7,7 @@ use Rattle.sshcore.specs.EndpointConfig.{config_data, role_of, setup_of}
 use Rattle.sshcore.specs.EndpointParts.{setup_with}
 use Rattle.sshcore.specs.Exchange.{keys_by}
 use Rattle.sshcore.specs.Inputs.{Steps}
-use Rattle.sshcore.specs.Questions.{always, question_at}
+use Rattle.sshcore.specs.Questions.{Decided, always, question_at}
 use Rattle.sshcore.specs.QuestionsView.{asked_data}
 use Rattle.sshcore.specs.Standing.{exchange_received}
 use Rattle.sshcore.specs.StateData.{state_data}
@@ -91,7 +91,7 @@ returns-in_ok-receive-in-None-clause-steps g c = λ d.
     let role = role_of c.args.config.now in
     let party = config_data c.args.config.now in
     let old = state_data c.args.state.now in
-    unit_steps below streams m role party (always false) old (state_data c.receive.new.self) (state_data c.turn.new.state) c.args.sent.now.items c.receive.new.sent.items c.requires.open
+    unit_steps below streams m role party (always (Decided false)) old (state_data c.receive.new.self) (state_data c.turn.new.state) c.args.sent.now.items c.receive.new.sent.items c.requires.open
     r p c.turn.new.reader c.args.piece.now c.in-Ok-Payload.payload.now c.in-Ok-Payload.used c.in-Ok-Payload.seq answer.0 answer.1 answer.2 leaves.0 c.in_ok-receive-in-None.ensures.brings c.turn.ensures.turns d
     (alike_unasked d (question_at m role party old c.in-Ok-Payload.payload.now) (sym c.in_ok-asked-in-Ok-Payload.ensures ∙ ap (λ x. option_map asked_data x) c.in-None.is))
 
@@ -145,5 +145,5 @@ returns-in_ok-receive-in-None-clause-keeps g c =
     let old = state_data c.args.state.now in
     let new = state_data c.receive.new.self in
     fits_turned m party old new (state_data c.turn.new.state) c.next.follows.lender-at-none c.turn.new.reader c.turn.ensures.turns
-    (fits_after below (setup_with m (always false) (role_of c.args.config.now) party) c.in-Ok-Payload.payload.now old new c.in-Ok-Payload.seq c.args.sent.now.items c.receive.new.sent.items
+    (fits_after below (setup_with m (always (Decided false)) (role_of c.args.config.now) party) c.in-Ok-Payload.payload.now old new c.in-Ok-Payload.seq c.args.sent.now.items c.receive.new.sent.items
     (λ fits. c.in_ok-receive-in-None.ensures.brings fits.form))

@@ -1,18 +1,18 @@
-use Rattle.std.proofs.Common.{sym, ◌∙◌}
+use Rattle.std.proofs.Common.{◌≡◌, false, rules, sym, ◌∙◌}
 use Rattle.std.proofs.lemmas.Result.{IfOk-weaker}
 use Rattle.sshmsg.specs.Numbers.{kind}
 use Rattle.sshcore.specs.declared.table.Line.TheVariants as line
 use Rattle.sshcore.specs.EndpointConfig.{config_data, role_of}
+use Rattle.sshcore.specs.Questions.{may_ask}
 use Rattle.sshcore.specs.StateData.{state_data}
 use Rattle.sshcore.proofs.AskedLemmas.{line_off, line_on, line_unasked}
 use Rattle.sshcore.proofs.BringsLemmas.{line_is}
 use Rattle.sshcore.proofs.state.State.asked.Goals as goal
 
-pub returns-then-number-ne-SSH_MSG_USERAUTH_REQUEST : goal.returns-then-number-ne-SSH_MSG_USERAUTH_REQUEST
-returns-then-number-ne-SSH_MSG_USERAUTH_REQUEST g c =
-    sym (line_unasked (g.S.Suite.meaning c.args.suite.now) (role_of c.args.config.now) (config_data c.args.config.now) (state_data c.args.self.now).known _ c.args.payload.now
-    (λ q. c.if-number-ne-SSH_MSG_KEXDH_REPLY.true (c.kind-number.ensures ∙ q))
-    (λ q. c.if-number-ne-SSH_MSG_USERAUTH_REQUEST.true (c.kind-number.ensures ∙ q)))
+pub returns-then-not-may_ask : goal.returns-then-not-may_ask
+returns-then-not-may_ask g c =
+    let off : may_ask (kind c.args.payload.now) ≡ false = search rules in
+    sym (line_unasked (g.S.Suite.meaning c.args.suite.now) (role_of c.args.config.now) (config_data c.args.config.now) (state_data c.args.self.now).known _ c.args.payload.now off)
 
 pub returns-in-Reads : goal.returns-in-Reads
 returns-in-Reads g c =

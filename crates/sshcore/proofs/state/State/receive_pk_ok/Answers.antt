@@ -9,13 +9,13 @@ use Rattle.sshcore.proofs.GivesLemmas.{gives_by, gives_from}
 use Rattle.sshcore.proofs.state.State.receive_pk_ok.Goals as goal
 
 -- the reply where it isn't about that key, and where it is
-off : (b : Bool) (x y r : Reply) → b ≡ false → (if b then x else y) ≡ r → y ≡ r
-off false x y r e same = same
-off true x y r e same = absurd cc
+off : (b about : Bool) (x y : Reply) → b ≡ false → b ≡ about → y ≡ (if about then x else y)
+off b false x y e same = refl
+off b true x y e same = absurd cc
 
-on : (b : Bool) (x y r : Reply) → b ≡ true → (if b then x else y) ≡ r → x ≡ r
-on true x y r e same = same
-on false x y r e same = absurd cc
+on : (b about : Bool) (x y : Reply) → b ≡ true → b ≡ about → x ≡ (if about then x else y)
+on b true x y e same = refl
+on b false x y e same = absurd cc
 
 pub returns-then-not-branch-clause-gives : goal.returns-then-not-branch-clause-gives
 returns-then-not-branch-clause-gives g c =
@@ -27,7 +27,7 @@ pub returns-clause-gives : goal.returns-clause-gives
 returns-clause-gives g c =
     let yes : c.in_ok-is_about.field-0 ≡ true = search rules in
     on_ok_weaker c.make_attempt.result (λ given strict next.
-    gives_by _ _ strict next _ _ _ _ _ _ (ap (attempt_reply (g.S.Suite.meaning c.args.suite.now) c.args.self.now.session.items) (left_confirmed c.args.self.now.confirmed _) ∙ on _ _ _ _ yes c.in_ok-is_about.ensures)
+    gives_by _ _ strict next _ _ _ _ _ _ (ap (attempt_reply (g.S.Suite.meaning c.args.suite.now) (g.D.Decisions.policy c.args.decisions.now) c.args.self.now.session.items) (left_confirmed c.args.self.now.confirmed _) ∙ on _ _ _ _ yes c.in_ok-is_about.ensures)
     (gives_from _ _ strict next _ (state_data c.args.self.now) _ _ _ _ refl (given strict next))) c.make_attempt.ensures.gives
 
 pub returns-clause-stays : goal.returns-clause-stays

@@ -22,5 +22,5 @@ pub reply_payload-requires-clause-share : goal.reply_payload-requires-clause-sha
 reply_payload-requires-clause-share g c =
     let kex = (state_data c.args.self.now).known.algorithms.kex in
     let form : c.share_form-form.result ≡ (g.S.Suite.meaning c.args.suite.now).share_form kex = search rules in
-    rw (form, c.deref-6.ensures.value)
+    rw (form, c.deref-7.ensures.value)
     (c.answer_law.ensures.share kex c.args.share.now (response_data c.args.response.now) c.requires.answer)

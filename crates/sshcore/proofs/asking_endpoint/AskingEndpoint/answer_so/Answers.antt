@@ -2,16 +2,17 @@ use Rattle.std.proofs.Common.{[], inl, refl, sym, ap, ◌∙◌, subst}
 use Rattle.sshcore.specs.Asking.{asking_end}
 use Rattle.sshcore.specs.EndData.{end_data}
 use Rattle.sshcore.specs.EndpointConfig.{config_data, role_of}
+use Rattle.sshcore.specs.QuestionsView.{answer_data}
 use Rattle.sshcore.specs.StateData.{state_data}
 use Rattle.sshcore.specs.Unread.{IsAskedBy}
 use Rattle.sshcore.specs.WaitingView.{waiting_data, waiting_of}
 use Rattle.sshcore.proofs.AskingLemmas.{answered_from, asks_open, breaks_same}
-use Rattle.sshcore.proofs.asking_endpoint.AskingEndpoint.answer.Goals as goal
+use Rattle.sshcore.proofs.asking_endpoint.AskingEndpoint.answer_so.Goals as goal
 
 pub returns-in-Ok-clause-answered : goal.returns-in-Ok-clause-answered
 returns-in-Ok-clause-answered g c =
     rw (← c.self.view_is) (λ some. answered_from g.S.Suite.meaning (role_of c.self.inside.config) (config_data c.self.inside.config) c.self.inside.suite.now
-    c.args.allowed (waiting_data c.in-Some.waiting) (waiting_of c.self.inside.waiting) (waiting_of c.take.new.self) c.self.inside.input c.answer_packet-answered.new.input
+    (answer_data c.args.answer) (waiting_data c.in-Some.waiting) (waiting_of c.self.inside.waiting) (waiting_of c.take.new.self) c.self.inside.input c.answer_packet-answered.new.input
     c.self.inside.state c.answer_packet-answered.new.state c.args.out.now.items c.answer_packet-answered.new.out.items
     (ap (λ w. waiting_of w) (sym c.take.ensures.value ∙ c.in-Some.is)) (ap (λ w. waiting_of w) c.take.ensures.after)
     (asks_open (end_data c.self.inside.state.end) (waiting_of c.self.inside.waiting) some) c.in-Ok.ensures.steps)
