@@ -36,7 +36,8 @@ ROWS = {
     'notices': [(f'a {side} behind the version line, strict: {kind}', ENDPOINT) for side in ('client', 'server') for kind in ('DISCONNECT', 'DEBUG 1')],
     'handed': [('a wrong tag at the link of a client, strict', ENDPOINT | {VECTOR, 'P5 for good'})],
     'asking': [('a client goes on, strict', ENDPOINT), ('a server is asked by a key, and the answer is yes', ENDPOINT)],
-    'signatures': [('a client is answered with the signature, strict, by its lines', ENDPOINT)],
+    'signatures': [('a client is answered with the signature, strict, by its lines', ENDPOINT),
+                   ('a server is answered with the signature, strict, by its decisions', ENDPOINT)],
     'worlds': [('course 8', WORLD), ('course 12', MOVES), ('course 15', WORLD), ('guessed, rounds 9', WORLD)],
 }
 

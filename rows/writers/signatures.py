@@ -14,6 +14,9 @@ from rsa import Key, prime
 LONGEST = 8192
 KEY, QUERY, PASSWORD, NOBODY = "publickey h " + hexa(BLOB), "query h " + hexa(BLOB), "password 00", "none"
 TALKS = (("strict", {}), ("loose", {"strict": False}))
+# how often a server asks its suite for a share and for a hash: once for each of an exchange, and for six keys of 16, 48 and 32 bytes by a hash
+# of 32 (RFC 4253 section 7.2)
+HASHED, EXCHANGED = ["responded 1", "digested 1"], ["responded 1", "digested %d" % (1 + 2 * (1 + 2 + 1))]
 # what is made in place of a signature, and how the line of a row is answered so
 REFUSALS = {"unsigned": (None, "answer unsigned"), "yes": (None, answer(True)), "no": (None, answer(False)),
             "a signature of 8193 bytes": (bytes([0x5a]) * (LONGEST + 1), "answer signature %d*5a" % (LONGEST + 1))}
@@ -246,38 +249,37 @@ def server_signs(a, name):
     request_ = (by_key(a.t.hash), to_accept(1, of_key(), True), [SUCCESS])
     a.both("is answered with the signature, " + name, settings, [
         (a.ready(), to_sign(0, a.t.hash, a.signature), [reply(a.t.hash), NEWKEYS]),
-        ([a.t.c_newkeys, a.t.c_service], None, [service(6, "ssh-userauth")]), request_], "verified 1", a.let_in(1, 1))
+        ([a.t.c_newkeys, a.t.c_service], None, [service(6, "ssh-userauth")]), request_], "verified 1", EXCHANGED, a.let_in(1, 1))
     for what, signature in (("a bit off", bytes([a.signature[0] ^ 1]) + a.signature[1:]), ("no byte", b""), ("8192 bytes", bytes([0x5a]) * LONGEST)):
         a.both("is answered with %s, %s" % (what, name), settings, [
             (a.ready(), to_sign(0, a.t.hash, signature), [reply(a.t.hash, signature), NEWKEYS]),
             ([a.t.c_newkeys, a.t.c_service], None, [service(6, "ssh-userauth")]),
-            (by_none(), to_accept(1, "none", True), [SUCCESS])], "verified 0", a.let_in(1, 1))
+            (by_none(), to_accept(1, "none", True), [SUCCESS])], "verified 0", EXCHANGED, a.let_in(1, 1))
     for what, (made, line) in REFUSALS.items():
         a.both("is answered %s, %s" % (what, name), settings, [
-            (a.ready(), to_sign(0, a.t.hash, made, line), [disconnect(3)])], "end failed F9", part(0, a.t.c_newkeys), "says -", "end failed F9", "session none")
+            (a.ready(), to_sign(0, a.t.hash, made, line), [disconnect(3)])], "end failed F9", HASHED, part(0, a.t.c_newkeys), "says -", "end failed F9", "session none")
 
 
 def server_unasked(file):
     """What isn't the client's share asks for no signature: a share that the suite refuses, one that is guessed wrong, and what has no place."""
     a = Signing(file, SERVER)
-    for what, payload, says_, end in (("a share of 32 bytes", b"\x1e" + string(share(RANDOM[CLIENT])[:32]), disconnect(3), "failed F9"),
-                                      ("an empty share", b"\x1e" + string(b""), disconnect(3), "failed F9"),
-                                      ("a malformed share", b"\x1e", disconnect(2), "failed F5 30"),
-                                      ("a reply", reply(a.t.hash), disconnect(2), "failed F7 31")):
+    for what, payload, says_, end, times in (("a share of 32 bytes", b"\x1e" + string(share(RANDOM[CLIENT])[:32]), disconnect(3), "failed F9", 1),
+                                             ("an empty share", b"\x1e" + string(b""), disconnect(3), "failed F9", 1),
+                                             ("a malformed share", b"\x1e", disconnect(2), "failed F5 30", 0),
+                                             ("a reply", reply(a.t.hash), disconnect(2), "failed F7 31", 0)):
         first = Half(CLIENT)
         first.send(a.t.ci)
         packet_ = first.send(payload)
-        a.both("asks nothing at " + what, [], [([packet_], None, [says_])], "end " + end, "session none")
+        a.both("asks nothing at " + what, [], [([packet_], None, [says_])], "responded %d" % times, "digested 0", "end " + end, "session none")
     a = Signing(file, SERVER, guess=True, crossed=True)
     a.both("asks nothing at a wrong guess", [], [
-        (a.ready(), to_sign(0, a.t.hash, a.signature), [reply(a.t.hash), NEWKEYS])], "end open", "session none")
-    a = Signing(file, SERVER, guess=True)
+        (a.ready(), to_sign(0, a.t.hash, a.signature), [reply(a.t.hash), NEWKEYS])], EXCHANGED, "end open", "session none")
     a = Signing(file, SERVER, guess=True)
     t = a.t
     for name, received in (("right guess", [t.c_first]), ("right guess in a packet of its own", [t.c_first[:-len(t.guessed)], t.guessed])):
         steps = [([], None, [t.s_first.hex()])] + [([piece], None, []) for piece in received[:-1]]
         a.both("asks at a " + name, [], [
-            ([received[-1]], to_sign(0, t.hash, a.signature), [reply(t.hash), NEWKEYS])], "end open", "session none", begin=steps)
+            ([received[-1]], to_sign(0, t.hash, a.signature), [reply(t.hash), NEWKEYS])], EXCHANGED, "end open", "session none", begin=steps)
 
 
 # Both.

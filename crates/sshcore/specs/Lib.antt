@@ -50,6 +50,7 @@ pub mod Inputs
 pub mod ReceivesLines
 pub mod EndpointData
 pub mod Endpoints
+pub mod Prepared
 pub mod AskingData
 pub mod WaitingView
 pub mod Keeping

@@ -16,6 +16,7 @@ use Rattle.sshcore.specs.EndData.{Open}
 use Rattle.sshcore.specs.EndpointParts.{ConfigData, DecisionsData, Setup, setup_with}
 use Rattle.sshcore.specs.Inputs.{CanRead, EndpointStands, Steps}
 use Rattle.sshcore.specs.Keeping.{FitsConfig}
+use Rattle.sshcore.specs.Prepared.{IsPrepared}
 use Rattle.sshcore.specs.Questions.{AnswerData, decided, question_at}
 use Rattle.sshcore.specs.StateData.{StateData, keys_due, keys_left}
 
@@ -48,12 +49,13 @@ abbrev pub IsIdle : Input → Type 0
 IsIdle (input.Lines reader) = ⊥
 IsIdle (input.Packets reader) = (packet_reader_data reader).held ≡ []
 
--- where a packet waits, an endpoint whose session goes on is open, and the packet asks
+-- where a packet waits, an endpoint whose session goes on is open, the packet asks, and what is prepared is what the suite answers
 pub record IsAsked (m : SuiteData) (role : Side) (party : ConfigData) (kept : StateData) (j : Input) (w : WaitingData) : Type 0 where
   pub is_open : kept.end ≡ Open
   pub idle : IsIdle j
   pub short : length w.payload ≤ PACKET_LIMIT
   pub asks : question_at m role party kept w.payload ≡ Some w.question
+  pub prepared : IsPrepared m party.random w.prepared
 
 abbrev pub IsAskedBy : SuiteData → Side → ConfigData → StateData → Input → Option WaitingData → Type 0
 IsAskedBy m role party kept j None = Unit {0}

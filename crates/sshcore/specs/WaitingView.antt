@@ -6,7 +6,7 @@ use Rattle.sshcore.specs.AskingData.{WaitingData}
 use Rattle.sshcore.specs.QuestionsView.{asked_data}
 
 abbrev pub waiting_data : Waiting → WaitingData
-waiting_data w = record { packet = w.packet; payload = w.payload.items; question = asked_data w.asked }
+waiting_data w = record { packet = w.packet; payload = w.payload.items; question = asked_data w.asked; prepared = w.prepared }
 
 abbrev pub waiting_of : Option Waiting → Option WaitingData
 waiting_of None = None

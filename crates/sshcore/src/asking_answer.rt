@@ -156,9 +156,10 @@ fn answer_packet<S: Suite, L: Listener>(
     sshneg::markers_law();
     let given = Given { answer, listener };
     let mut sent = Vec::new(state.alloc);
-    state.receive(
+    state.receive_prepared(
         config,
         suite,
+        &waiting.prepared,
         &given,
         &waiting.payload,
         waiting.packet,

@@ -122,9 +122,10 @@ fn ask_packets<S: Suite, L: Listener>(
             waiting: None,
         }),
         Ok(PacketStep::Payload { payload, seq, used }) => {
-            match state.asked(config, suite, payload)? {
+            let prepared = state.prepare(config, suite, payload)?;
+            match state.asked_prepared(config, suite, &prepared, payload)? {
                 Some(asked) => {
-                    let waiting = Waiting::new(state.alloc, seq, payload, asked)?;
+                    let waiting = Waiting::new(state.alloc, seq, payload, asked, prepared)?;
                     Ok(Came {
                         used,
                         waiting: Some(waiting),
@@ -135,7 +136,7 @@ fn ask_packets<S: Suite, L: Listener>(
                         answer: Answer::Decided(false),
                         listener,
                     };
-                    state.receive(config, suite, &given, payload, seq, sent)?;
+                    state.receive_prepared(config, suite, &prepared, &given, payload, seq, sent)?;
                     turn(reader, state);
                     Ok(Came {
                         used,

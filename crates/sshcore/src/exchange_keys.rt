@@ -45,7 +45,11 @@ impl State<'_> {
     }
 
     /// What is hashed (RFC 4253 section 8).
-    fn hash_input(&self, config: &Config<'_>, shares: &Shares<'_>) -> Result<Vec<u8>, Memory>
+    pub(crate) fn hash_input(
+        &self,
+        config: &Config<'_>,
+        shares: &Shares<'_>,
+    ) -> Result<Vec<u8>, Memory>
         requires host_key { length shares.now.host_key.now ≤ PACKET_LIMIT }
         requires client_share { length shares.now.client_share.now ≤ PACKET_LIMIT }
         requires server_share { length shares.now.server_share.now ≤ PACKET_LIMIT }

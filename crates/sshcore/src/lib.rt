@@ -56,6 +56,8 @@ mod packet;
 mod packet_lines;
 mod paused_endpoint;
 mod payloads;
+mod prepared;
+mod preparing;
 mod proving;
 mod question;
 mod reaching;

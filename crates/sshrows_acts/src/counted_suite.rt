@@ -1,27 +1,61 @@
-//! A suite of which is counted what it signs and verifies.
+//! A suite of which is counted what it is asked for.
 
 use sshpacket::{Capability, KeyLens, Keys, Need, Response, ShareForm, Suite};
 use sshwire::Memory;
 use std::alloc::Global;
 use std::cell::Cell;
 
-/// A suite that answers as another does, and counts how often it is asked to make a signature and to verify one.
+/// How often a suite was asked.
+#[derive(Drop)]
+pub(crate) struct Counts {
+    /// For a signature.
+    pub(crate) signed: Cell<u32>,
+    /// Whether a signature is right.
+    pub(crate) verified: Cell<u32>,
+    /// For a server's share and its shared secret.
+    pub(crate) responded: Cell<u32>,
+    /// For a hash.
+    pub(crate) digested: Cell<u32>,
+}
+
+impl Counts {
+    /// Never.
+    fn new() -> Counts {
+        Counts {
+            signed: Cell::new(0),
+            verified: Cell::new(0),
+            responded: Cell::new(0),
+            digested: Cell::new(0),
+        }
+    }
+
+    /// Counts from 0 again.
+    pub(crate) fn reset(&self) {
+        self.signed.set(0);
+        self.verified.set(0);
+        self.responded.set(0);
+        self.digested.set(0);
+    }
+}
+
+/// Counts once more.
+fn count(cell: &Cell<u32>) {
+    cell.set(cell.get().saturating_add(1));
+}
+
+/// A suite that answers as another does, and counts how often it is asked.
 #[derive(Drop)]
 pub(crate) struct CountedSuite<S: Suite> {
     pub(crate) suite: S,
-    /// How many signatures were made.
-    pub(crate) signed: Cell<u32>,
-    /// How many signatures were verified.
-    pub(crate) verified: Cell<u32>,
+    pub(crate) counts: Counts,
 }
 
 impl<S: Suite> CountedSuite<S> {
-    /// A suite that answers as this one, before any signature.
+    /// A suite that answers as this one, and was asked nothing.
     pub(crate) fn new(suite: S) -> CountedSuite<S> {
         CountedSuite {
             suite,
-            signed: Cell::new(0),
-            verified: Cell::new(0),
+            counts: Counts::new(),
         }
     }
 }
@@ -100,10 +134,12 @@ impl<S: Suite> Suite for CountedSuite<S> {
         random: &[u8],
         peer: &[u8],
     ) -> Result<Option<Response>, Memory> {
+        count(&self.counts.responded);
         self.suite.respond(alloc, kex, random, peer)
     }
 
     fn digest(&self, alloc: Global, kex: &str, input: &[u8]) -> Result<Vec<u8>, Memory> {
+        count(&self.counts.digested);
         self.suite.digest(alloc, kex, input)
     }
 
@@ -122,7 +158,7 @@ impl<S: Suite> Suite for CountedSuite<S> {
         secret: &[u8],
         input: &[u8],
     ) -> Result<Vec<u8>, Memory> {
-        self.signed.set(self.signed.get().saturating_add(1));
+        count(&self.counts.signed);
         self.suite.sign(alloc, alg, secret, input)
     }
 
@@ -134,7 +170,7 @@ impl<S: Suite> Suite for CountedSuite<S> {
         input: &[u8],
         signature: &[u8],
     ) -> Result<bool, Memory> {
-        self.verified.set(self.verified.get().saturating_add(1));
+        count(&self.counts.verified);
         self.suite.verify(alloc, alg, blob, input, signature)
     }
 

@@ -3,7 +3,7 @@
 use crate::asked::text_of_signature;
 use crate::below_texts::text_with;
 use crate::endpoints::Subject;
-use crate::judged::{Judged, Reply};
+use crate::judged::{Judged, Refused, Reply};
 use crate::names::Names;
 use crate::refusals::{is_out_of_memory, refused_sending};
 use crate::stop::Stop;
@@ -14,8 +14,8 @@ use crate::texts::{
 };
 use crate::words::{Line, split_word};
 use sshcore::{ChosenNames, Phase, Proof, Question};
-use sshwire::Memory;
 use std::alloc::Global;
+use std::cell::Cell;
 use std::mem;
 
 /// Judges one line.
@@ -93,10 +93,41 @@ fn look<E: Judged>(
             let found = text_of_question(alloc, &talk.endpoint.question())?;
             same_text(alloc, line, "question", rest, &found)
         }
-        "signed" => shows(alloc, line, "signed", rest, &talk.endpoint.signed()),
-        "verified" => shows(alloc, line, "verified", rest, &talk.endpoint.verified()),
+        "signed" => counted(alloc, line, "signed", rest, &talk.endpoint.counts().signed),
+        "verified" => counted(
+            alloc,
+            line,
+            "verified",
+            rest,
+            &talk.endpoint.counts().verified,
+        ),
+        "responded" => counted(
+            alloc,
+            line,
+            "responded",
+            rest,
+            &talk.endpoint.counts().responded,
+        ),
+        "digested" => counted(
+            alloc,
+            line,
+            "digested",
+            rest,
+            &talk.endpoint.counts().digested,
+        ),
         _ => wrong(alloc, line, "line", "a word of an endpoint", word),
     }
+}
+
+/// Judges how often something was done since this was last judged.
+fn counted(
+    alloc: Global,
+    line: &Line<'_>,
+    what: &'static str,
+    wanted: &str,
+    count: &Cell<u32>,
+) -> Result<(), Stop> {
+    shows(alloc, line, what, wanted, &count.replace(0))
 }
 
 /// Gives the endpoint the bytes, of which it has to use so many.
@@ -110,7 +141,8 @@ fn feed<E: Judged>(
     talk.judged = false;
     match used_of(talk, piece) {
         Ok(found) => same_count(alloc, line, "used", wanted, found),
-        Err(_) => Err(refused_call(alloc, line, talk)),
+        Err(Refused::Endpoint) => Err(refused_call(alloc, line, talk)),
+        Err(Refused::Answer) => Err(Stop::Memory),
     }
 }
 
@@ -185,7 +217,7 @@ fn is_failed_for_good<E: Judged>(talk: &mut Subject<'_, E>) -> bool {
 }
 
 /// Gives the endpoint the bytes in pieces, up to one that it doesn't use whole, and answers how many it used.
-fn used_of<E: Judged>(talk: &mut Subject<'_, E>, piece: &[u8]) -> Result<usize, Memory> {
+fn used_of<E: Judged>(talk: &mut Subject<'_, E>, piece: &[u8]) -> Result<usize, Refused> {
     if piece.is_empty() {
         return fed(talk, piece);
     }
@@ -201,7 +233,7 @@ fn used_of<E: Judged>(talk: &mut Subject<'_, E>, piece: &[u8]) -> Result<usize, 
 }
 
 /// Gives the endpoint one piece, and keeps how it stands after that.
-fn fed<E: Judged>(talk: &mut Subject<'_, E>, piece: &[u8]) -> Result<usize, Memory> {
+fn fed<E: Judged>(talk: &mut Subject<'_, E>, piece: &[u8]) -> Result<usize, Refused> {
     let used = talk.endpoint.feed(piece, &mut talk.out)?;
     talk.stood = stood_after(talk.stood, talk.endpoint.stands());
     Ok(used)

@@ -111,7 +111,7 @@ pub(crate) struct Subject<'a, E: Judged> {
 }
 
 /// Judges an endpoint of this config over the suite: first one that asks these decisions by itself, then one that asks and
-/// waits, which they answer. What they are asked and told is kept, and how many signatures the suite makes and verifies is counted.
+/// waits, which they answer. What they are asked and told is kept, and how often the suite is asked is counted.
 /// The second has to stand as the first after each piece.
 pub fn judge_endpoint<C: Configures, S: Suite + Drop, D: Decisions>(
     alloc: Global,
@@ -126,8 +126,7 @@ pub fn judge_endpoint<C: Configures, S: Suite + Drop, D: Decisions>(
     };
     let suite = &CountedSuite::new(suite);
     let stood = judge_deciding(alloc, row, config, suite, asking)?;
-    suite.signed.set(0);
-    suite.verified.set(0);
+    suite.counts.reset();
     row.act.told.asks.set(true);
     let stands = judge_asking(alloc, row, config, suite, asking, false)?;
     same_count(alloc, row.act, "how it stood", stood, stands)?;

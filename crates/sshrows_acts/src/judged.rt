@@ -2,7 +2,7 @@
 //! lines of its row answer.
 
 use crate::asked::Asking;
-use crate::counted_suite::CountedSuite;
+use crate::counted_suite::{CountedSuite, Counts};
 use sshcore::{
     AskingEndpoint, ChosenNames, Decisions, End, Endpoint, Fed, Phase, Question, Session,
 };
@@ -13,7 +13,7 @@ use std::alloc::Global;
 /// An endpoint that is judged.
 pub(crate) trait Judged {
     /// Gives it bytes, and answers how many it used.
-    fn feed(&mut self, piece: &[u8], out: &mut Vec<u8>) -> Result<usize, Memory>;
+    fn feed(&mut self, piece: &[u8], out: &mut Vec<u8>) -> Result<usize, Refused>;
 
     /// Tells it that its input has ended.
     fn end_of_input(&mut self);
@@ -48,11 +48,17 @@ pub(crate) trait Judged {
         Ok(false)
     }
 
-    /// How many signatures were made since the last call.
-    fn signed(&self) -> u32;
+    /// How often its suite was asked.
+    fn counts(&self) -> &Counts;
+}
 
-    /// How many signatures were verified since the last call.
-    fn verified(&self) -> u32;
+/// Who was refused memory.
+#[derive(Clone, Copy)]
+pub(crate) enum Refused {
+    /// The endpoint.
+    Endpoint,
+    /// What answers it: the endpoint was told nothing.
+    Answer,
 }
 
 /// An answer: yes or no, or a signature or none.
@@ -71,8 +77,11 @@ pub(crate) struct Deciding<'a, S: Suite, D: Decisions> {
 }
 
 impl<S: Suite, D: Decisions> Judged for Deciding<'_, S, D> {
-    fn feed(&mut self, piece: &[u8], out: &mut Vec<u8>) -> Result<usize, Memory> {
-        self.endpoint.feed(piece, out)
+    fn feed(&mut self, piece: &[u8], out: &mut Vec<u8>) -> Result<usize, Refused> {
+        match self.endpoint.feed(piece, out) {
+            Ok(used) => Ok(used),
+            Err(_) => Err(Refused::Endpoint),
+        }
     }
 
     fn end_of_input(&mut self) {
@@ -105,12 +114,8 @@ impl<S: Suite, D: Decisions> Judged for Deciding<'_, S, D> {
         self.endpoint.into_session()
     }
 
-    fn signed(&self) -> u32 {
-        self.suite.signed.replace(0)
-    }
-
-    fn verified(&self) -> u32 {
-        self.suite.verified.replace(0)
+    fn counts(&self) -> &Counts {
+        &self.suite.counts
     }
 }
 
@@ -129,8 +134,11 @@ pub(crate) struct Waiting<'a, S: Suite, D: Decisions> {
 impl<S: Suite, D: Decisions> Waiting<'_, S, D> {
     /// Gives it bytes up to its first question, and answers how many it used: more than there are, where what it
     /// answers isn't what it waits for.
-    fn feed_once(&mut self, piece: &[u8], out: &mut Vec<u8>) -> Result<usize, Memory> {
-        match (self.endpoint.feed(piece, out)?, self.endpoint.question()) {
+    fn feed_once(&mut self, piece: &[u8], out: &mut Vec<u8>) -> Result<usize, Refused> {
+        let Ok(fed) = self.endpoint.feed(piece, out) else {
+            return Err(Refused::Endpoint);
+        };
+        match (fed, self.endpoint.question()) {
             (Fed::Used(used), None) => Ok(used),
             (Fed::Asks { used }, Some(_)) => Ok(used),
             _ => Ok(usize::MAX),
@@ -138,15 +146,22 @@ impl<S: Suite, D: Decisions> Waiting<'_, S, D> {
     }
 
     /// Answers what it asks by the decisions.
-    fn decide(&mut self, out: &mut Vec<u8>) -> Result<(), Memory> {
+    fn decide(&mut self, out: &mut Vec<u8>) -> Result<(), Refused> {
         let decided = match self.endpoint.question() {
-            Some(question) => answer_of(self.asking, &question)?,
+            Some(question) => answer_of(self.asking, &question),
             None => return Ok(()),
         };
-        match decided {
-            Decided::Flag(flag) => self.endpoint.answer(flag, out),
-            Decided::Unsigned => self.endpoint.answer_signature(None, out),
-            Decided::Signed(signature) => self.endpoint.answer_signature(Some(&signature), out),
+        let answered = match decided {
+            Ok(Decided::Flag(flag)) => self.endpoint.answer(flag, out),
+            Ok(Decided::Unsigned) => self.endpoint.answer_signature(None, out),
+            Ok(Decided::Signed(signature)) => {
+                self.endpoint.answer_signature(Some(&signature), out)
+            }
+            Err(_) => return Err(Refused::Answer),
+        };
+        match answered {
+            Ok(()) => Ok(()),
+            Err(_) => Err(Refused::Endpoint),
         }
     }
 }
@@ -190,7 +205,7 @@ fn answer_of<D: Decisions>(
 }
 
 impl<S: Suite, D: Decisions> Judged for Waiting<'_, S, D> {
-    fn feed(&mut self, piece: &[u8], out: &mut Vec<u8>) -> Result<usize, Memory> {
+    fn feed(&mut self, piece: &[u8], out: &mut Vec<u8>) -> Result<usize, Refused> {
         if self.by_row {
             return self.feed_once(piece, out);
         }
@@ -251,11 +266,7 @@ impl<S: Suite, D: Decisions> Judged for Waiting<'_, S, D> {
         Ok(true)
     }
 
-    fn signed(&self) -> u32 {
-        self.suite.signed.replace(0)
-    }
-
-    fn verified(&self) -> u32 {
-        self.suite.verified.replace(0)
+    fn counts(&self) -> &Counts {
+        &self.suite.counts
     }
 }

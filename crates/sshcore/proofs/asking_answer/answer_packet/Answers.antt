@@ -34,13 +34,13 @@ returns-clause-steps g c =
     let party = config_data c.args.config.now in
     let w = waiting_data c.args.waiting.now in
     let old = state_data c.args.state.now in
-    let new = state_data c.receive.new.self in
+    let new = state_data c.receive_prepared.new.self in
     let last = state_data c.turn_input.new.state in
-    let brings = subst (λ (l : List ℕ). HasForm m old → Brings (setup_with m (always (answer_data c.args.answer)) role party) old new w.packet l c.new-sent.result.items c.receive.new.sent.items) c.deref.ensures.value c.in_ok-receive.ensures.brings in (
-      c.receive.new.sent.items,
+    let brings = subst (λ (l : List ℕ). HasForm m old → Brings (setup_with m (always (answer_data c.args.answer)) role party) old new w.packet l c.new-sent.result.items c.receive_prepared.new.sent.items) c.deref.ensures.value c.in_ok-receive_prepared.ensures.brings in (
+      c.receive_prepared.new.sent.items,
       search rules,
-      subst (λ (l : List ℕ). AnswerSteps m role party (taken w.question (answer_data c.args.answer)) w c.args.input.now old c.turn_input.new.input last l c.receive.new.sent.items) c.new-sent.ensures.items
-          (answer_steps below streams m role party (answer_data c.args.answer) w old new last c.new-sent.result.items c.receive.new.sent.items c.requires.asked.is_open
+      subst (λ (l : List ℕ). AnswerSteps m role party (taken w.question (answer_data c.args.answer)) w c.args.input.now old c.turn_input.new.input last l c.receive_prepared.new.sent.items) c.new-sent.ensures.items
+          (answer_steps below streams m role party (answer_data c.args.answer) w old new last c.new-sent.result.items c.receive_prepared.new.sent.items c.requires.asked.is_open
           c.args.input.now c.turn_input.new.input c.requires.asked.asks brings c.turn_input.ensures.turned),
     )
 
@@ -55,7 +55,7 @@ returns-clause-keeps g c =
     let party = config_data c.args.config.now in
     let w = waiting_data c.args.waiting.now in
     let old = state_data c.args.state.now in
-    let new = state_data c.receive.new.self in
-    let brings = subst (λ (l : List ℕ). HasForm m old → Brings (setup_with m (always (answer_data c.args.answer)) role party) old new w.packet l c.new-sent.result.items c.receive.new.sent.items) c.deref.ensures.value c.in_ok-receive.ensures.brings in
+    let new = state_data c.receive_prepared.new.self in
+    let brings = subst (λ (l : List ℕ). HasForm m old → Brings (setup_with m (always (answer_data c.args.answer)) role party) old new w.packet l c.new-sent.result.items c.receive_prepared.new.sent.items) c.deref.ensures.value c.in_ok-receive_prepared.ensures.brings in
     fits_input m party old new (state_data c.turn_input.new.state) c.args.input.now c.turn_input.new.input c.turn_input.ensures.turned
-    (fits_after below (setup_with m (always (answer_data c.args.answer)) role party) w.payload old new w.packet c.new-sent.result.items c.receive.new.sent.items (λ fits. brings fits.form))
+    (fits_after below (setup_with m (always (answer_data c.args.answer)) role party) w.payload old new w.packet c.new-sent.result.items c.receive_prepared.new.sent.items (λ fits. brings fits.form))

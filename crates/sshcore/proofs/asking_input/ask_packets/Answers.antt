@@ -7,6 +7,7 @@ use Rattle.sshcore.specs.EndpointConfig.{config_data, role_of, setup_of}
 use Rattle.sshcore.specs.EndpointParts.{setup_with}
 use Rattle.sshcore.specs.Exchange.{keys_by}
 use Rattle.sshcore.specs.Inputs.{Steps}
+use Rattle.sshcore.specs.Prepared.{IsPrepared}
 use Rattle.sshcore.specs.Questions.{Decided, always, question_at}
 use Rattle.sshcore.specs.QuestionsView.{asked_data}
 use Rattle.sshcore.specs.Standing.{exchange_received}
@@ -51,7 +52,7 @@ returns-in_ok-waiting-in-Some-clause-steps g c =
     let came = c.in-Ok-Payload.is ∙ ap Ok c.in-Ok-Payload.field-0-is in
     let answer = subst (λ x. ParseAnswer m (packet_reader_data r) c.args.piece.now (Ok x)) c.in-Ok-Payload.field-0-is (c.in-Ok-Payload.ensures.answers c.requires.reads) in
     let leaves = subst (λ x. ReaderLeaves m (packet_reader_data r) c.args.piece.now x p) came (c.next.follows.holds-at-none.0 c.requires.reads) in
-    let w : WaitingData = record { packet = c.in-Ok-Payload.seq; payload = c.in-Ok-Payload.payload.now; question = asked_data c.in-Some.asked } in
+    let w : WaitingData = record { packet = c.in-Ok-Payload.seq; payload = c.in-Ok-Payload.payload.now; question = asked_data c.in-Some.asked; prepared = c.in_ok-prepared-in-Ok-Payload.prepared } in
     let same = c.in_ok-waiting-in-Some.ensures.same in
     record {
       same = refl;
@@ -64,11 +65,12 @@ returns-in_ok-waiting-in-Some-clause-steps g c =
         short = c.in_ok-waiting-in-Some.ensures.short;
         asks = ap (λ (x : WaitingData). question_at m (role_of c.args.config.now) (config_data c.args.config.now) (state_data c.args.state.now) x.payload) same
             ∙ sym c.in_ok-asked-in-Ok-Payload.ensures ∙ ap (λ x. option_map asked_data x) c.in-Some.is ∙ ap (λ (x : WaitingData). Some x.question) (sym same);
+        prepared = subst (λ (x : WaitingData). IsPrepared m (config_data c.args.config.now).random x.prepared) (sym same) c.in_ok-prepared-in-Ok-Payload.ensures;
       };
     }
 
-pub returns-in_ok-receive-in-None-clause-steps : goal.returns-in_ok-receive-in-None-clause-steps
-returns-in_ok-receive-in-None-clause-steps g c = λ d.
+pub returns-in_ok-receive_prepared-in-None-clause-steps : goal.returns-in_ok-receive_prepared-in-None-clause-steps
+returns-in_ok-receive_prepared-in-None-clause-steps g c = λ d.
     let m = g.S.Suite.meaning c.args.suite.now in
     let r = c.args.reader.now in
     let below : Below = record { numbers = c.numbers_law.ensures.kind; alike = c.numbers_law.ensures.alike; right = c.markers_law.ensures.right } in
@@ -91,8 +93,8 @@ returns-in_ok-receive-in-None-clause-steps g c = λ d.
     let role = role_of c.args.config.now in
     let party = config_data c.args.config.now in
     let old = state_data c.args.state.now in
-    unit_steps below streams m role party (always (Decided false)) old (state_data c.receive.new.self) (state_data c.turn.new.state) c.args.sent.now.items c.receive.new.sent.items c.requires.open
-    r p c.turn.new.reader c.args.piece.now c.in-Ok-Payload.payload.now c.in-Ok-Payload.used c.in-Ok-Payload.seq answer.0 answer.1 answer.2 leaves.0 c.in_ok-receive-in-None.ensures.brings c.turn.ensures.turns d
+    unit_steps below streams m role party (always (Decided false)) old (state_data c.receive_prepared.new.self) (state_data c.turn.new.state) c.args.sent.now.items c.receive_prepared.new.sent.items c.requires.open
+    r p c.turn.new.reader c.args.piece.now c.in-Ok-Payload.payload.now c.in-Ok-Payload.used c.in-Ok-Payload.seq answer.0 answer.1 answer.2 leaves.0 c.in_ok-receive_prepared-in-None.ensures.brings c.turn.ensures.turns d
     (alike_unasked d (question_at m role party old c.in-Ok-Payload.payload.now) (sym c.in_ok-asked-in-Ok-Payload.ensures ∙ ap (λ x. option_map asked_data x) c.in-None.is))
 
 pub returns-in_ok-fail_packet-in-Err-clause-steps : goal.returns-in_ok-fail_packet-in-Err-clause-steps
@@ -137,13 +139,13 @@ returns-in_ok-fail_packet-in-Err-clause-used g c =
       subst (λ (n : ℕ). n ≤ length c.args.piece.now) (sym used_is) leaves.1,
     )
 
-pub returns-in_ok-receive-in-None-clause-keeps : goal.returns-in_ok-receive-in-None-clause-keeps
-returns-in_ok-receive-in-None-clause-keeps g c =
+pub returns-in_ok-receive_prepared-in-None-clause-keeps : goal.returns-in_ok-receive_prepared-in-None-clause-keeps
+returns-in_ok-receive_prepared-in-None-clause-keeps g c =
     let m = g.S.Suite.meaning c.args.suite.now in
     let below : Below = record { numbers = c.numbers_law.ensures.kind; alike = c.numbers_law.ensures.alike; right = c.markers_law.ensures.right } in
     let party = config_data c.args.config.now in
     let old = state_data c.args.state.now in
-    let new = state_data c.receive.new.self in
+    let new = state_data c.receive_prepared.new.self in
     fits_turned m party old new (state_data c.turn.new.state) c.next.follows.lender-at-none c.turn.new.reader c.turn.ensures.turns
-    (fits_after below (setup_with m (always (Decided false)) (role_of c.args.config.now) party) c.in-Ok-Payload.payload.now old new c.in-Ok-Payload.seq c.args.sent.now.items c.receive.new.sent.items
-    (λ fits. c.in_ok-receive-in-None.ensures.brings fits.form))
+    (fits_after below (setup_with m (always (Decided false)) (role_of c.args.config.now) party) c.in-Ok-Payload.payload.now old new c.in-Ok-Payload.seq c.args.sent.now.items c.receive_prepared.new.sent.items
+    (λ fits. c.in_ok-receive_prepared-in-None.ensures.brings fits.form))
