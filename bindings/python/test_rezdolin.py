@@ -189,7 +189,8 @@ class Asyncssh(unittest.TestCase):
                 gone.set()
                 thread.join()
             self.assertTrue(server.is_authenticated, (server.end, server.fault, server.detail))
-        self.assertEqual((server.link().user, server.link().fields[17]), (b'al', b'\x01'))
+        link = server.link()
+        self.assertEqual((link.user, link.fields[17]), (b'al', b'\x01'))
 
 
 if __name__ == '__main__':
