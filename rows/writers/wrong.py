@@ -1,6 +1,7 @@
 """Rows with one wrong expectation each, which a judge has to refuse: what they differ in from a right row is told by their names."""
 from lab import *
 from requests import half
+from paused import Party, Record, spoilt
 from signatures import KEY, by_signature, input_of, tries
 
 
@@ -23,6 +24,7 @@ def rows(file):
     questions(file, t)
     waiting(file, t)
     signatures(file, t)
+    records(file, t)
     notices(file, t)
     disconnecting(file, t)
     linked(file, t)
@@ -122,6 +124,40 @@ def signatures(file, t):
         file.row(name, "config server", "kex 'curve25519-sha256", "hostkeys 'ssh-ed25519", "cipher_cs 'aes256-gcm@openssh.com", "cipher_sc 'aes256-gcm@openssh.com", lines,
                  "named " + verdict)
     file.row("a public key that is elsewhere is another", "suite elsewhere", "blob h 00 01")
+
+
+def records(file, t):
+    """Records of an endpoint that has received nothing."""
+    start, party, end = ["waiting server", says(t.s_first)], Party(SERVER), "end open"
+    text = Record(SERVER).text()
+    right, other_ = "record " + text.hex(), text[:-1] + b"\x01"
+    file.row("the record has a bit more", start, "record " + other_.hex(), end)
+    file.row("the record has a byte less", start, "record " + text[:-1].hex(), end)
+    file.row("the record has a byte more", start, right + "00", end)
+    file.row("an open endpoint has no record", start, "record none", end)
+    file.row("an open endpoint has no record, and no line stands behind that", start, end, "record none")
+    file.row("an endpoint that has ended has a record", start, "cut", "end failed F16", right)
+    file.row("a line stands behind no record", start, "cut", "end failed F16", "record none", "end failed F16")
+    file.row("nothing is handed over behind no record", start, "cut", "end failed F16", "record none", "session none")
+    for mask in (0x01, 0x80):
+        found = spoilt(text, mask, party)
+        for name, wanted in (("all are refused", "%du" % len(text)), ("all are taken", "%dm" % len(text)), ("another version is no record", found.replace("v", "u", 1)),
+                             ("one place less", found[:-2] + "7u"), ("one place more", found + "1u"), ("other records", found.replace("m", "o")), ("nothing", "")):
+            if wanted != found:
+                file.row("a record spoilt by %02x: %s" % (mask, name), start, ("spoilt %02x %s" % (mask, wanted)).rstrip(), end)
+        file.row("a record spoilt by %02x is as by another mask" % mask, start, "spoilt %02x %s" % (mask ^ 0x81, found), end)
+    for what in ("0101", "-", "x"):
+        file.row("a mask that is no byte: %s" % what, start, "spoilt %s %s" % (what, spoilt(text, 1, party)), end)
+    file.row("what has ended is spoilt", start, "cut", "end failed F16", "spoilt 01 " + spoilt(text, 1, party))
+    file.row("what has ended is cut", start, "cut", "end failed F16", "cuts")
+    file.row("a server takes a client's record", start, "takes m " + Record(CLIENT).text().hex(), end)
+    file.row("a client refuses its own record", "waiting client", says(t.c_first), "takes u " + Record(CLIENT).text().hex(), end)
+    file.row("a record is another one's", start, "takes o " + text.hex(), end)
+    file.row("a record of version 2 is unreadable", start, "takes u " + (u32(2) + text[4:]).hex(), end)
+    file.row("a record of version 2 is taken", start, "takes m " + (u32(2) + text[4:]).hex(), end)
+    file.row("three bytes are of another version", start, "takes v 000000", end)
+    for word in (right, "spoilt 01 " + spoilt(text, 1, party), "cuts", "takes m " + text.hex()):
+        file.row("%s at one whose decisions answer" % word.split(" ")[0], "begin server", says(t.s_first), word, end)
 
 
 def notices(file, t):

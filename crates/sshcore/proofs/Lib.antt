@@ -58,6 +58,9 @@ pub mod LineLemmas
 pub mod AskingLemmas
 pub mod KeepingLemmas
 pub mod PausedLemmas
+pub mod RecordLemmas
+pub mod RecordMadeLemmas
+pub mod RecordLawLemmas
 pub mod LinkLemmas
 pub mod AuthenticatedLemmas
 pub mod UncutLemmas

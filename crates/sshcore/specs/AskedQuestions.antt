@@ -1,6 +1,6 @@
 -- The questions that an endpoint asks by the payloads that it received, and the decisions that give answers to them.
 
-use Rattle.std.specs.Prelude.{⊤, ◌≡◌, ℕ, ◌<◌, Bool, List, [], ◌∷◌, ◌++◌, Option, None, Some}
+use Rattle.std.specs.Prelude.{⊤, ◌≡◌, ℕ, ◌<◌, List, [], ◌∷◌, ◌++◌, Option, None, Some}
 use Rattle.std.specs.List.{AllByRecursion}
 use Rattle.sshpacket.specs.Places.{flat_places}
 use Rattle.sshpacket.specs.Stream.{Units}

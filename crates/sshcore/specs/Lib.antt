@@ -57,6 +57,12 @@ pub mod Keeping
 pub mod Unread
 pub mod Asking
 pub mod Paused
+pub mod RecordData
+pub mod RecordText
+pub mod RecordView
+pub mod RecordReads
+pub mod Record
+pub mod RecordMade
 pub mod AskingBeside
 pub mod Dialogue
 pub mod Authenticated

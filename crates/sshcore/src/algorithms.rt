@@ -1,13 +1,14 @@
 //! The names of the algorithms that are used.
 
-ghost use Rattle.std.specs.Prelude.{◌≡◌, ◌<◌, IfOk, Some, length, string_bytes};
+ghost use Rattle.std.specs.Prelude.{[], ◌≡◌, ◌<◌, ◌∷◌, IfOk, Some, length, string_bytes};
 ghost use Rattle.std.specs.List.{slice_get};
-ghost use Rattle.sshwire.specs.Types.{IsName};
+ghost use Rattle.sshwire.specs.Types.{AreNames, IsName};
 ghost use Rattle.sshmsg.specs.View.{kexinit_data};
 ghost use Rattle.sshneg.specs.Fields as fields;
 ghost use Rattle.sshcore.specs.Chosen.{AreAt, ArePlaced, cipher_of, mac_of};
 ghost use Rattle.sshcore.specs.EndData.{agreed_data};
 ghost use Rattle.sshcore.specs.NamesView.{names_of};
+ghost use Rattle.sshcore.specs.Record.{HasNames};
 
 use crate::chosen_names::ChosenNames;
 use crate::end::Agreed;
@@ -20,8 +21,8 @@ use std::marker::Model;
 /// The algorithm of each direction.
 #[derive(Drop)]
 pub(crate) struct Directions {
-    client_to_server: String,
-    server_to_client: String,
+    pub(crate) client_to_server: String,
+    pub(crate) server_to_client: String,
 }
 
 impl Directions {
@@ -61,6 +62,39 @@ impl Model for Algorithms {
 }
 
 impl Algorithms {
+    /// The algorithms of these names.
+    pub(crate) fn of(
+        kex: String,
+        host_key: String,
+        encryption: Directions,
+        mac: Directions,
+        compression: Directions,
+    ) -> Algorithms
+        requires kex { IsName (string_bytes kex) }
+        requires host_key { IsName (string_bytes host_key) }
+        requires encryption { AreNames (string_bytes encryption.client_to_server ∷ string_bytes encryption.server_to_client ∷ []) }
+        requires mac { AreNames (string_bytes mac.client_to_server ∷ string_bytes mac.server_to_client ∷ []) }
+        requires compression { AreNames (string_bytes compression.client_to_server ∷ string_bytes compression.server_to_client ∷ []) }
+        ensures { result ≡ record {
+          kex = string_bytes kex;
+          host_key = string_bytes host_key;
+          encryption_client_to_server = string_bytes encryption.client_to_server;
+          encryption_server_to_client = string_bytes encryption.server_to_client;
+          mac_client_to_server = string_bytes mac.client_to_server;
+          mac_server_to_client = string_bytes mac.server_to_client;
+          compression_client_to_server = string_bytes compression.client_to_server;
+          compression_server_to_client = string_bytes compression.server_to_client;
+        } }
+    {
+        Algorithms {
+            kex,
+            host_key,
+            encryption,
+            mac,
+            compression,
+        }
+    }
+
     /// The names at these positions of the client's lists.
     pub(crate) fn at(
         alloc: Global,
@@ -130,7 +164,8 @@ impl Algorithms {
 
     /// The names, lent.
     pub(crate) fn names(&self) -> ChosenNames<'_>
-        ensures { names_of result ≡ self.now }
+        ensures same { names_of result ≡ self.now }
+        ensures named { HasNames self.now }
     {
         ChosenNames {
             kex: &self.kex,

@@ -24,7 +24,7 @@ use crate::end::Fault;
 use crate::payloads::init_payload;
 use crate::state::State;
 use crate::table::Phase;
-use sshmsg::{KexInit, SSH_MSG_KEXINIT};
+use sshmsg::{KexInit, Message, MsgFault, SSH_MSG_KEXINIT, read};
 use sshneg::{NoCommon, Side, choose, guess_right, strict_of};
 use sshpacket::{ShareForm, Suite};
 use sshwire::Memory;
@@ -140,6 +140,17 @@ fn is_strict(config: &Config<'_>, peer: &KexInit<'_>) -> bool
 {
     sshneg::markers_law();
     strict_of(config.side().strict, config.role(), peer)
+}
+
+/// Whether this payload is a client's KEXINIT that asks for extensions (RFC 8308 section 2.1).
+pub(crate) fn asks_in(alloc: Global, payload: &[u8]) -> Result<bool, Memory>
+    ensures { IfOk result (λ asks. asks ≡ asks_for_extensions payload.now) }
+{
+    match read(alloc, payload) {
+        Ok(Message::KexInit(kexinit)) => Ok(asks_for_extensions(&kexinit)),
+        Err(MsgFault::Memory) => Err(Memory),
+        _ => Ok(false),
+    }
 }
 
 /// Whether a client's KEXINIT asks for extensions (RFC 8308 section 2.1).

@@ -11,7 +11,8 @@ ghost use Rattle.sshcore.specs.ConfigRules.{IsAttempt};
 ghost use Rattle.sshcore.specs.ConfigView.{attempt_data};
 ghost use Rattle.sshcore.specs.EndpointConfig.{config_data, role_of};
 ghost use Rattle.sshcore.specs.EndpointParts.{DecisionsData, config_of_client, config_of_server, setup_with};
-ghost use Rattle.sshcore.specs.Paused.{FitsPaused, IsPaused, IsResumed, PausedAfter, asked_paused, kept_with, paused_end};
+ghost use Rattle.sshcore.specs.MadeWith.{draws_in};
+ghost use Rattle.sshcore.specs.Paused.{FitsPaused, IsPaused, IsResumed, PausedAfter, asked_paused, kept_by, kept_with, paused_end};
 ghost use Rattle.sshcore.specs.Redrawn.{redrawn_client, redrawn_server};
 ghost use Rattle.sshcore.specs.StateData.{state_data};
 ghost use Rattle.sshcore.specs.Unread.{IsAskingEndpoint};
@@ -39,14 +40,14 @@ use std::marker::Model;
 #[derive(Drop)]
 pub struct PausedEndpoint<S> {
     draws: Draws,
-    role: Side,
+    pub(crate) role: Side,
     made: MadeWith,
     suite: Seen<S>,
-    input: Input,
-    state: State<'static>,
+    pub(crate) input: Input,
+    pub(crate) state: State<'static>,
     /// How many attempts of the plan are left, from the one on that was made last.
-    left: usize,
-    waiting: Option<Waiting>,
+    pub(crate) left: usize,
+    pub(crate) waiting: Option<Waiting>,
 }
 
 impl<S> Model for PausedEndpoint<S> {
@@ -168,6 +169,38 @@ impl<S: Suite> PausedEndpoint<S> {
     }
 }
 
+impl<S: Suite> PausedEndpoint<S> {
+    /// The paused endpoint of these parts, of whose plan so many attempts are left.
+    pub(crate) fn with(
+        config: Config<'_>,
+        suite: &S,
+        input: Input,
+        state: State<'_>,
+        left: usize,
+        waiting: Option<Waiting>,
+    ) -> PausedEndpoint<S>
+        requires fits { IsAskingEndpoint (S.meaning suite.now) (role_of config) (config_data config) (kept_with (config_data config).plan state left) input (waiting_of waiting) }
+        ensures fits { FitsPaused S.meaning (role_of config.entry) (config_data config.entry) suite.now result }
+        ensures same { (result.input ≡ input) × (result.waiting ≡ waiting_of waiting) }
+        ensures draws { result.draws ≡ draws_in config.entry }
+        ensures kept { kept_by (config_data config.entry) result ≡ kept_with (config_data config.entry).plan state.entry left }
+    {
+        let confirmed = state.confirmed;
+        let role = config.role();
+        let made = config.seen();
+        PausedEndpoint {
+            draws: config.into_draws(),
+            role,
+            made,
+            suite: Seen::of(suite),
+            input,
+            state: state.with_left(&[], confirmed),
+            left,
+            waiting,
+        }
+    }
+}
+
 /// An endpoint with this config, of whose plan so many attempts are left.
 fn resumed<'a, S: Suite, L: Listener>(
     config: Config<'a>,
@@ -195,7 +228,7 @@ fn resumed<'a, S: Suite, L: Listener>(
 }
 
 /// The last of these attempts, so many of them.
-fn last_of<'a>(plan: &'a [Attempt], left: usize) -> &'a [Attempt]
+pub(crate) fn last_of<'a>(plan: &'a [Attempt], left: usize) -> &'a [Attempt]
     requires accepted { AllByRecursion IsAttempt (map attempt_data plan.now) }
     ensures last { map attempt_data result.now ≡ drop (length (map attempt_data plan.now) - left) (map attempt_data plan.now) }
     ensures accepted { AllByRecursion IsAttempt (map attempt_data result.now) }

@@ -74,7 +74,7 @@ impl PacketReader {
         ensures taken { last_used result ≡ 0 }
         ensures waits { (m : SuiteData) → ReaderWaits m result }
     {
-        PacketReader::from_here(alloc, None, 0)
+        PacketReader::going_on(alloc, None, 0)
     }
 
     /// A reader of what goes on with these keys, the next packet having this number: for a stream
@@ -84,12 +84,13 @@ impl PacketReader {
         ensures taken { last_used result ≡ 0 }
         ensures waits { (m : SuiteData) → ReaderWaits m result }
     {
-        PacketReader::from_here(alloc, Some(keys), seq)
+        PacketReader::going_on(alloc, Some(keys), seq)
     }
 
-    /// A reader with nothing held.
+    /// A reader of what goes on with these keys, or in clear where there are none, the next packet having this number. It
+    /// takes no memory.
     #[tactic(auto, unfolding(crate::specs::PacketReaderData::packet_reader_data, crate::specs::PacketReaderData::last_used, crate::specs::PacketReaderData::target_len), using(crate::proofs::WaitLemmas::waits_empty))]
-    fn from_here(alloc: Global, keys: Option<Keys>, seq: u32) -> PacketReader
+    pub fn going_on(alloc: Global, keys: Option<Keys>, seq: u32) -> PacketReader
         ensures state { packet_reader_data result ≡ record { keys = keys; seq = seq; held = []; fault = None } }
         ensures taken { last_used result ≡ 0 }
         ensures waits { (m : SuiteData) → ReaderWaits m result }
@@ -215,6 +216,30 @@ impl PacketReader {
         ensures number { result.1 ≡ (packet_reader_data self).seq }
     {
         (self.keys, self.seq)
+    }
+
+    /// The keys; none in clear. It takes no memory.
+    #[tactic(auto, unfolding(crate::specs::PacketReaderData::packet_reader_data))]
+    pub fn keys(&self) -> &Option<Keys>
+        ensures { result.now ≡ (packet_reader_data self.now).keys }
+    {
+        &self.keys
+    }
+
+    /// The sequence number of the next packet. It takes no memory.
+    #[tactic(auto, unfolding(crate::specs::PacketReaderData::packet_reader_data))]
+    pub fn sequence_number(&self) -> u32
+        ensures { result ≡ (packet_reader_data self.now).seq }
+    {
+        self.seq
+    }
+
+    /// The bytes that are held of the unfinished packet. It takes no memory.
+    #[tactic(auto, unfolding(crate::specs::PacketReaderData::packet_reader_data))]
+    pub fn unfinished(&self) -> &[u8]
+        ensures { result.now ≡ (packet_reader_data self.now).held }
+    {
+        self.unfinished.as_slice()
     }
 
     /// How many bytes of the piece the last call of `next` used; at a refusal up to the byte that

@@ -5,31 +5,31 @@ use sshcore::Decisions;
 use sshlab::{Scenario, ScenarioFault, TEXT_LIMIT};
 use sshpacket::{KeysElsewhere, Suite};
 use sshrows_acts::{
-    Generous, Line, Names, Row, Stop, judge_config, judge_endpoint, judge_waiting, nothing_after,
-    same_text, shows, signing_of, split_word, wrong,
+    Generous, Line, Names, Row, Stop, Way, judge_config, judge_endpoint, judge_waiting,
+    nothing_after, same_text, shows, signing_of, split_word, wrong,
 };
 use sshsuite::DeployedSuite;
 use sshsuites::LabSuite;
 use std::alloc::Global;
 
-/// Judges the lines from the act on, in pieces of at most so many bytes.
+/// Judges the lines from the act on, an endpoint in this way.
 pub(crate) fn act(
     alloc: Global,
     names: &Names,
     row: &Line<'_>,
     text: &[u8],
     lines: &[Line<'_>],
-    piece_len: usize,
+    way: Way,
 ) -> Result<(), Stop> {
     let Some((line, rest)) = lines.split_first() else {
         return wrong(alloc, row, "row", "an act", "none");
     };
     let (word, role) = line.head();
     if word == "config" {
-        return judge_config(alloc, names, line, role, rest, piece_len);
+        return judge_config(alloc, names, line, role, rest, way);
     }
     match scenario_of(alloc, row, text)? {
-        Ok(scenario) => act_by(alloc, names, line, &scenario, rest, piece_len),
+        Ok(scenario) => act_by(alloc, names, line, &scenario, rest, way),
         Err(fault) => {
             let wanted = if word == "refused" { role } else { "accepted" };
             shows(alloc, line, "config", wanted, &fault)?;
@@ -64,14 +64,14 @@ fn act_by(
     line: &Line<'_>,
     scenario: &Scenario,
     rest: &[Line<'_>],
-    piece_len: usize,
+    way: Way,
 ) -> Result<(), Stop> {
     let (word, words) = line.head();
     let row = Row {
         names,
         act: line,
         lines: rest,
-        piece_len,
+        way,
     };
     let decisions = &scenario.decisions;
     match (word, split_word(words).1) {

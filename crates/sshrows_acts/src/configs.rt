@@ -1,6 +1,6 @@
 //! Rows of configs whose parts are made one by one.
 
-use crate::endpoints::{Row, judge_endpoint};
+use crate::endpoints::{Row, Way, judge_endpoint};
 use crate::generous::Generous;
 use crate::names::Names;
 use crate::parts::{client_by, server_by};
@@ -21,7 +21,7 @@ pub fn judge_config(
     row: &Line<'_>,
     role: &str,
     lines: &[Line<'_>],
-    piece_len: usize,
+    way: Way,
 ) -> Result<(), Stop> {
     let place = lines.iter().position(|line| is_verdict(line.text));
     let parts = lines.get(..place.unwrap_or(0)).unwrap_or(&[]);
@@ -33,11 +33,11 @@ pub fn judge_config(
     match role {
         "client" => {
             let parts = client_by(alloc, names, parts)?;
-            judge_client(alloc, names, line, parts, rest, piece_len)
+            judge_client(alloc, names, line, parts, rest, way)
         }
         "server" => {
             let parts = server_by(alloc, names, parts)?;
-            judge_server(alloc, names, line, parts, rest, piece_len)
+            judge_server(alloc, names, line, parts, rest, way)
         }
         _ => same_text(alloc, row, "act", "client or server", role),
     }
@@ -58,10 +58,10 @@ fn judge_client(
     line: &Line<'_>,
     parts: Box<ClientParts>,
     lines: &[Line<'_>],
-    piece_len: usize,
+    way: Way,
 ) -> Result<(), Stop> {
     match client_config_of(alloc, parts)? {
-        Ok(config) => accepted_client(alloc, names, line, &config, lines, piece_len),
+        Ok(config) => accepted_client(alloc, names, line, &config, lines, way),
         Err(fault) => refused(alloc, line, &fault),
     }
 }
@@ -73,10 +73,10 @@ fn judge_server(
     line: &Line<'_>,
     parts: Box<ServerParts>,
     lines: &[Line<'_>],
-    piece_len: usize,
+    way: Way,
 ) -> Result<(), Stop> {
     match server_config_of(alloc, parts)? {
-        Ok(config) => accepted_server(alloc, names, line, &config, lines, piece_len),
+        Ok(config) => accepted_server(alloc, names, line, &config, lines, way),
         Err(fault) => refused(alloc, line, &fault),
     }
 }
@@ -143,7 +143,7 @@ fn accepted_client(
     line: &Line<'_>,
     config: &ClientConfig,
     lines: &[Line<'_>],
-    piece_len: usize,
+    way: Way,
 ) -> Result<(), Stop> {
     let (word, rest) = line.head();
     match word {
@@ -162,7 +162,7 @@ fn accepted_client(
                 names,
                 act: line,
                 lines,
-                piece_len,
+                way,
             };
             judge_endpoint(alloc, row, config, (LabSuite, &Generous))
         }
@@ -178,7 +178,7 @@ fn accepted_server(
     line: &Line<'_>,
     config: &ServerConfig,
     lines: &[Line<'_>],
-    piece_len: usize,
+    way: Way,
 ) -> Result<(), Stop> {
     let (word, rest) = line.head();
     match word {
@@ -194,7 +194,7 @@ fn accepted_server(
                 names,
                 act: line,
                 lines,
-                piece_len,
+                way,
             };
             judge_endpoint(alloc, row, config, (LabSuite, &Generous))
         }

@@ -29,6 +29,24 @@ impl Counts {
         }
     }
 
+    /// The same counts.
+    pub(crate) fn copied(&self) -> Counts {
+        Counts {
+            signed: Cell::new(self.signed.get()),
+            verified: Cell::new(self.verified.get()),
+            responded: Cell::new(self.responded.get()),
+            digested: Cell::new(self.digested.get()),
+        }
+    }
+
+    /// Counts on from these.
+    pub(crate) fn put_back(&self, counts: &Counts) {
+        self.signed.set(counts.signed.get());
+        self.verified.set(counts.verified.get());
+        self.responded.set(counts.responded.get());
+        self.digested.set(counts.digested.get());
+    }
+
     /// Counts from 0 again.
     pub(crate) fn reset(&self) {
         self.signed.set(0);

@@ -5,6 +5,7 @@ use crate::below_texts::text_with;
 use crate::endpoints::Subject;
 use crate::judged::{Judged, Refused, Reply};
 use crate::names::Names;
+use crate::recorded::judge_record;
 use crate::refusals::{is_out_of_memory, refused_sending};
 use crate::stop::Stop;
 use crate::terms::{bytes_of, count_of, text_of};
@@ -52,6 +53,7 @@ pub(crate) fn step<E: Judged>(
             disconnect(alloc, line, talk, reason, &description)
         }
         "answer" => reply(alloc, names, line, talk, rest),
+        "record" | "spoilt" | "cuts" | "takes" => judge_record(alloc, names, line, talk),
         _ => look(alloc, line, talk, word, rest),
     }
 }
@@ -141,8 +143,22 @@ fn feed<E: Judged>(
     talk.judged = false;
     match used_of(talk, piece) {
         Ok(found) => same_count(alloc, line, "used", wanted, found),
-        Err(Refused::Endpoint) => Err(refused_call(alloc, line, talk)),
-        Err(Refused::Answer) => Err(Stop::Memory),
+        Err(refused) => stopped_by(alloc, line, talk, refused),
+    }
+}
+
+/// The row isn't judged to its end: the endpoint was refused memory, or what answers or renews it, or it isn't what its
+/// record makes.
+pub(crate) fn stopped_by<E: Judged>(
+    alloc: Global,
+    line: &Line<'_>,
+    talk: &mut Subject<'_, E>,
+    refused: Refused,
+) -> Result<(), Stop> {
+    match refused {
+        Refused::Endpoint => Err(refused_call(alloc, line, talk)),
+        Refused::Answer => Err(Stop::Memory),
+        Refused::Record(found) => wrong(alloc, line, "record", "itself", found),
     }
 }
 
@@ -193,7 +209,7 @@ fn answer<E: Judged>(
     match talk.endpoint.answer(reply, &mut talk.out) {
         Ok(true) => Ok(()),
         Ok(false) => wrong(alloc, line, "line", "a word of an endpoint", "answer"),
-        Err(_) => Err(refused_call(alloc, line, talk)),
+        Err(refused) => stopped_by(alloc, line, talk, refused),
     }
 }
 

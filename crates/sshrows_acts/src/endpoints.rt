@@ -8,10 +8,14 @@ use crate::judged::{Deciding, Judged, Waiting};
 use crate::linked::{judge_link, link_of, seed_of};
 use crate::names::Names;
 use crate::refusals::refused_sending;
+use crate::renewing::Again;
 use crate::stop::Stop;
 use crate::texts::{BEFORE, same_count, stands_after, wrong};
 use crate::words::Line;
-use sshcore::{AskingEndpoint, ClientConfig, Decisions, Endpoint, ServerConfig, Session};
+use sshcore::{
+    AskingEndpoint, ClientConfig, Decisions, Endpoint, PausedEndpoint, RecordFault, ServerConfig,
+    Session,
+};
 use sshpacket::Suite;
 use sshwire::Memory;
 use std::alloc::Global;
@@ -35,6 +39,15 @@ pub trait Configures {
         asking: &'a Asking<'a, D>,
         out: &mut Vec<u8>,
     ) -> Result<AskingEndpoint<'a, S, Asking<'a, D>>, Memory>;
+
+    /// An endpoint of this config that asks and waits, made of a record.
+    fn again<'a, S: Suite, D: Decisions>(
+        &'a self,
+        alloc: Global,
+        suite: &'a S,
+        asking: &'a Asking<'a, D>,
+        record: &[u8],
+    ) -> Result<Again<'a, S, D>, RecordFault>;
 }
 
 impl Configures for ClientConfig {
@@ -56,6 +69,19 @@ impl Configures for ClientConfig {
         out: &mut Vec<u8>,
     ) -> Result<AskingEndpoint<'a, S, Asking<'a, D>>, Memory> {
         AskingEndpoint::client(alloc, self, self.draws(), suite, asking, out)
+    }
+
+    fn again<'a, S: Suite, D: Decisions>(
+        &'a self,
+        alloc: Global,
+        suite: &'a S,
+        asking: &'a Asking<'a, D>,
+        record: &[u8],
+    ) -> Result<Again<'a, S, D>, RecordFault> {
+        let paused = PausedEndpoint::client_of_record(alloc, record, self, self.draws(), suite)?;
+        let record = paused.record(alloc)?;
+        let endpoint = paused.resume_client(self, suite, asking);
+        Ok(Again { endpoint, record })
     }
 }
 
@@ -79,6 +105,28 @@ impl Configures for ServerConfig {
     ) -> Result<AskingEndpoint<'a, S, Asking<'a, D>>, Memory> {
         AskingEndpoint::server(alloc, self, self.draws(), suite, asking, out)
     }
+
+    fn again<'a, S: Suite, D: Decisions>(
+        &'a self,
+        alloc: Global,
+        suite: &'a S,
+        asking: &'a Asking<'a, D>,
+        record: &[u8],
+    ) -> Result<Again<'a, S, D>, RecordFault> {
+        let paused = PausedEndpoint::server_of_record(alloc, record, self, self.draws(), suite)?;
+        let record = paused.record(alloc)?;
+        let endpoint = paused.resume_server(self, suite, asking);
+        Ok(Again { endpoint, record })
+    }
+}
+
+/// How an endpoint is judged.
+#[derive(Clone, Copy)]
+pub struct Way {
+    /// How many bytes it is given at once, at most.
+    pub piece_len: usize,
+    /// Whether it is one that asks and waits, and is made again of its record before all that it is given.
+    pub renewed: bool,
 }
 
 /// A row of an endpoint.
@@ -90,8 +138,8 @@ pub struct Row<'a> {
     pub act: &'a Line<'a>,
     /// The lines after that.
     pub lines: &'a [Line<'a>],
-    /// How many bytes the endpoint is given at once, at most.
-    pub piece_len: usize,
+    /// How the endpoint is judged.
+    pub way: Way,
 }
 
 /// An endpoint that is judged.
@@ -108,11 +156,13 @@ pub(crate) struct Subject<'a, E: Judged> {
     pub(crate) judged: bool,
     /// How it stood after each piece, folded into a number: what it held, its phase, whether both sides were strict.
     pub(crate) stood: usize,
+    /// The number of the last line of its row.
+    pub(crate) last: u32,
 }
 
 /// Judges an endpoint of this config over the suite: first one that asks these decisions by itself, then one that asks and
 /// waits, which they answer. What they are asked and told is kept, and how often the suite is asked is counted.
-/// The second has to stand as the first after each piece.
+/// The second has to stand as the first after each piece. One that is renewed is judged alone.
 pub fn judge_endpoint<C: Configures, S: Suite + Drop, D: Decisions>(
     alloc: Global,
     row: Row<'_>,
@@ -125,6 +175,10 @@ pub fn judge_endpoint<C: Configures, S: Suite + Drop, D: Decisions>(
         received,
     };
     let suite = &CountedSuite::new(suite);
+    if row.way.renewed {
+        judge_asking(alloc, row, config, suite, asking, false)?;
+        return Ok(());
+    }
     let stood = judge_deciding(alloc, row, config, suite, asking)?;
     suite.counts.reset();
     row.act.told.asks.set(true);
@@ -163,9 +217,11 @@ fn judge_asking<'a, C: Configures, S: Suite, D: Decisions>(
     let made = match config.waiting(alloc, suite, asking, &mut out) {
         Ok(endpoint) => Ok(Waiting {
             endpoint,
+            config,
             asking,
             suite,
             by_row,
+            renewed: row.way.renewed,
         }),
         Err(_) => Err(Memory),
     };
@@ -207,9 +263,10 @@ fn judge<S: Suite, E: Judged + Drop>(
         endpoint,
         received,
         out,
-        piece_len: row.piece_len,
+        piece_len: row.way.piece_len,
         judged: false,
         stood: 0,
+        last: last_of(row.lines),
     };
     talk(alloc, row, suite, Box::new(alloc, subject)?)
 }
@@ -226,7 +283,7 @@ fn talk<S: Suite, E: Judged + Drop>(
         names,
         act,
         lines,
-        piece_len,
+        way,
     } = row;
     let mut subject = subject;
     let place = place_of(lines, "link");
@@ -241,10 +298,18 @@ fn talk<S: Suite, E: Judged + Drop>(
     let judged = judge_session(alloc, &session, handed);
     let seed = seed_of(alloc, names, linked);
     let mut link = link_of(alloc, session, seed.unwrap_or([0; 32]));
-    let went_on = judge_link(alloc, names, suite, &mut link, linked, piece_len);
+    let went_on = judge_link(alloc, names, suite, &mut link, linked, way.piece_len);
     drop(link);
     judged.and(seed.and(went_on))?;
     Ok(stood)
+}
+
+/// The number of the last line; 0 where there is none.
+fn last_of(lines: &[Line<'_>]) -> u32 {
+    match lines.last() {
+        Some(line) => line.number,
+        None => 0,
+    }
 }
 
 /// The place of the first line that begins with this word; that after all lines where there is none.

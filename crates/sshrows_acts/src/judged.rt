@@ -3,6 +3,7 @@
 
 use crate::asked::Asking;
 use crate::counted_suite::{CountedSuite, Counts};
+use crate::endpoints::Configures;
 use sshcore::{
     AskingEndpoint, ChosenNames, Decisions, End, Endpoint, Fed, Phase, Question, Session,
 };
@@ -44,21 +45,38 @@ pub(crate) trait Judged {
     }
 
     /// Gives it an answer of a line, and tells whether it takes one.
-    fn answer(&mut self, _reply: Reply<'_>, _out: &mut Vec<u8>) -> Result<bool, Memory> {
+    fn answer(&mut self, _reply: Reply<'_>, _out: &mut Vec<u8>) -> Result<bool, Refused> {
         Ok(false)
+    }
+
+    /// Whether lines of its row may judge its record.
+    fn has_records(&self) -> bool {
+        false
+    }
+
+    /// Its record, of which it is made again and goes on. One that has ended has none, and doesn't go on.
+    fn record(&mut self) -> Result<Option<Vec<u8>>, Refused> {
+        Ok(None)
+    }
+
+    /// The letter of what an endpoint is that is made of these bytes.
+    fn remade(&self, _bytes: &[u8]) -> Result<&'static str, Refused> {
+        Ok("")
     }
 
     /// How often its suite was asked.
     fn counts(&self) -> &Counts;
 }
 
-/// Who was refused memory.
+/// Who was refused memory, or that an endpoint isn't what its record makes.
 #[derive(Clone, Copy)]
 pub(crate) enum Refused {
     /// The endpoint.
     Endpoint,
-    /// What answers it: the endpoint was told nothing.
+    /// What answers it, or renews it: the endpoint was told nothing.
     Answer,
+    /// What came of its record in place of itself.
+    Record(&'static str),
 }
 
 /// An answer: yes or no, or a signature or none.
@@ -121,20 +139,24 @@ impl<S: Suite, D: Decisions> Judged for Deciding<'_, S, D> {
 
 /// An endpoint that asks and waits.
 #[derive(Drop)]
-pub(crate) struct Waiting<'a, S: Suite, D: Decisions> {
+pub(crate) struct Waiting<'a, C: Configures, S: Suite, D: Decisions> {
     pub(crate) endpoint: AskingEndpoint<'a, CountedSuite<S>, Asking<'a, D>>,
+    pub(crate) config: &'a C,
     /// Who answers, and is told what the peer tells people.
     pub(crate) asking: &'a Asking<'a, D>,
     /// The suite that counts.
     pub(crate) suite: &'a CountedSuite<S>,
     /// Whether the lines of its row answer instead.
     pub(crate) by_row: bool,
+    /// Whether it is made again of its record before all that it is given.
+    pub(crate) renewed: bool,
 }
 
-impl<S: Suite, D: Decisions> Waiting<'_, S, D> {
+impl<C: Configures, S: Suite, D: Decisions> Waiting<'_, C, S, D> {
     /// Gives it bytes up to its first question, and answers how many it used: more than there are, where what it
     /// answers isn't what it waits for.
     fn feed_once(&mut self, piece: &[u8], out: &mut Vec<u8>) -> Result<usize, Refused> {
+        self.renew()?;
         let Ok(fed) = self.endpoint.feed(piece, out) else {
             return Err(Refused::Endpoint);
         };
@@ -147,6 +169,7 @@ impl<S: Suite, D: Decisions> Waiting<'_, S, D> {
 
     /// Answers what it asks by the decisions.
     fn decide(&mut self, out: &mut Vec<u8>) -> Result<(), Refused> {
+        self.renew()?;
         let decided = match self.endpoint.question() {
             Some(question) => answer_of(self.asking, &question),
             None => return Ok(()),
@@ -204,7 +227,7 @@ fn answer_of<D: Decisions>(
     }
 }
 
-impl<S: Suite, D: Decisions> Judged for Waiting<'_, S, D> {
+impl<C: Configures, S: Suite, D: Decisions> Judged for Waiting<'_, C, S, D> {
     fn feed(&mut self, piece: &[u8], out: &mut Vec<u8>) -> Result<usize, Refused> {
         if self.by_row {
             return self.feed_once(piece, out);
@@ -255,15 +278,34 @@ impl<S: Suite, D: Decisions> Judged for Waiting<'_, S, D> {
         self.endpoint.question()
     }
 
-    fn answer(&mut self, reply: Reply<'_>, out: &mut Vec<u8>) -> Result<bool, Memory> {
+    fn answer(&mut self, reply: Reply<'_>, out: &mut Vec<u8>) -> Result<bool, Refused> {
         if !self.by_row {
             return Ok(false);
         }
-        match reply {
-            Reply::Decided(decided) => self.endpoint.answer(decided, out)?,
-            Reply::Signed(signature) => self.endpoint.answer_signature(signature, out)?,
+        self.renew()?;
+        let answered = match reply {
+            Reply::Decided(decided) => self.endpoint.answer(decided, out),
+            Reply::Signed(signature) => self.endpoint.answer_signature(signature, out),
+        };
+        match answered {
+            Ok(()) => Ok(true),
+            Err(_) => Err(Refused::Endpoint),
         }
-        Ok(true)
+    }
+
+    fn has_records(&self) -> bool {
+        self.by_row
+    }
+
+    fn record(&mut self) -> Result<Option<Vec<u8>>, Refused> {
+        self.record_again()
+    }
+
+    fn remade(&self, bytes: &[u8]) -> Result<&'static str, Refused> {
+        match self.made_of(bytes)? {
+            Ok(_) => Ok("m"),
+            Err(other) => Ok(other.letter()),
+        }
     }
 
     fn counts(&self) -> &Counts {

@@ -27,7 +27,9 @@ mod line_readers;
 mod linked;
 mod names;
 mod parts;
+mod recorded;
 mod refusals;
+mod renewing;
 mod signing;
 mod stop;
 mod terms;
@@ -36,7 +38,7 @@ mod words;
 
 pub use below::{is_below, judge_below};
 pub use configs::judge_config;
-pub use endpoints::{Configures, Row, judge_endpoint, judge_waiting};
+pub use endpoints::{Configures, Row, Way, judge_endpoint, judge_waiting};
 pub use generous::Generous;
 pub use names::Names;
 pub use refusals::{is_out_of_memory, refused};

@@ -26,6 +26,12 @@ unfinished (Waits left line) = line
 unfinished Finished = []
 unfinished (Refused code) = []
 
+-- how many other lines it has left
+abbrev pub others_left : Progress → ℕ
+others_left (Waits left line) = left
+others_left Finished = 0
+others_left (Refused code) = 0
+
 -- how many bytes it holds
 abbrev pub held : Progress → ℕ
 held (Waits left line) = length line

@@ -2,10 +2,10 @@
 
 ghost use Rattle.std.specs.Prelude.{◌≡◌, ◌≢◌, ◌-◌, ◌≤◌, ◌↔◌, ℕ, IsTrue, List, [], ◌∷◌, ◌++◌, length, drop, take, true, None, Ok, Err, IfOk, IfSome};
 ghost use Rattle.sshwire.specs.Lines.{IsUnfinished};
-ghost use Rattle.sshwire.specs.LineReaderData.{Finished, Waits, held, unfinished};
+ghost use Rattle.sshwire.specs.LineReaderData.{Finished, Waits, held, others_left, unfinished};
 ghost use Rattle.sshwire.specs.Reading.{ReadsTo, is_line_by, reading_by};
 
-use crate::fault::WireFault;
+use crate::fault::{Memory, WireFault};
 use crate::limits::LINE_LIMIT;
 use crate::line_form::LineForm;
 use crate::peer_version::{PeerVersion, is_line_by};
@@ -83,6 +83,32 @@ impl PeerLineReader {
         }
     }
 
+    /// A reader that accepts so many other lines before the version line, takes that by this form, and holds this
+    /// unfinished line, as one did that has read further. None where it is no such line: where it has a NUL or an LF, or
+    /// 255 bytes. `Memory` where an allocation failed.
+    pub fn going_on(
+        alloc: Global,
+        others: u32,
+        form: LineForm,
+        line: &[u8],
+    ) -> Result<Option<PeerLineReader>, Memory>
+        ensures state { IfOk result (λ o. IfSome o (λ r. r ≡ record { state = record { progress = Waits others line.now; taken = 0 }; form = form })) }
+        ensures none { IfOk result (λ o. o ≡ None → IsUnfinished line.now → ⊥) }
+    {
+        if !is_unfinished(line) {
+            return Ok(None);
+        }
+        let line = Vec::from_slice(alloc, line)?;
+        Ok(Some(PeerLineReader {
+            alloc,
+            form,
+            left: others,
+            line,
+            ending: Ending::Open,
+            taken: 0,
+        }))
+    }
+
     /// Reads the next bytes of the stream. Bytes after the version line aren't read. It may not be
     /// called once it has answered `Done`.
     ///
@@ -137,6 +163,18 @@ impl PeerLineReader {
         ensures bound { result ≤ LINE_LIMIT - 1 }
     {
         self.line.len()
+    }
+
+    /// How many other lines it still accepts; none once it has answered or refused. Takes no memory.
+    pub fn others_left(&self) -> u32
+        ensures left { result ≡ others_left self.now.state.progress }
+        // What it holds is an unfinished line.
+        ensures line { IsUnfinished (unfinished self.now.state.progress) }
+    {
+        match self.ending {
+            Ending::Open => self.left,
+            _ => 0,
+        }
     }
 
     /// The bytes of the unfinished line; none once the reader has answered or refused. Takes no memory.
@@ -212,6 +250,13 @@ impl PeerLineReader {
         self.ending = Ending::Refused(fault);
         self.line.clear();
     }
+}
+
+/// Whether these bytes may stand in a line before its LF, with room for that.
+fn is_unfinished(line: &[u8]) -> bool
+    ensures { IsTrue result ↔ IsUnfinished line.now }
+{
+    line.len() < LINE_LIMIT && line.iter().all(|b| *b != 0 && *b != b'\n')
 }
 
 /// Reads bytes until the version line or a refusal comes, and says how many it read.

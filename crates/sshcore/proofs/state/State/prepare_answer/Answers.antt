@@ -1,6 +1,6 @@
-use Rattle.std.proofs.Common.{◌≡◌, ◌≤◌, List, ℕ, Option, Some, arith, length, subst}
+use Rattle.std.proofs.Common.{◌≡◌, ◌≤◌, List, ℕ, Some, arith, length, subst}
 use Rattle.sshpacket.specs.declared.limits.TheConstants.{SHARE_LIMIT}
-use Rattle.sshpacket.specs.Suite.{ResponseData, response_data}
+use Rattle.sshpacket.specs.Suite.{response_data}
 use Rattle.sshcore.proofs.ExchangeLemmas.{given_answer, share_short}
 use Rattle.sshcore.proofs.state.State.prepare_answer.Goals as goal
 

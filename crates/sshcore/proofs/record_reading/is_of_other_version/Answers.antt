@@ -1,0 +1,7 @@
+use Rattle.std.proofs.Common.{◌∙◌, arith, rules}
+use Rattle.sshcore.proofs.record_reading.is_of_other_version.Goals as goal
+
+pub returns-then-reader-clause-this : goal.returns-then-reader-clause-this
+returns-then-reader-clause-this c = λ rest e.
+    let read = c.number-version.ensures 1 rest (omega arith) (c.new.ensures ∙ e) in
+    search (read.0, rules)

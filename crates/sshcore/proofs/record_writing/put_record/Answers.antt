@@ -1,0 +1,33 @@
+use Rattle.std.proofs.Common.{◌∙◌}
+use Rattle.sshcore.specs.RecordText.{authentication_text, carried_text, exchange_text, option_text, packet_text, reader_text, sending_text}
+use Rattle.sshcore.specs.RecordView.{record_data}
+use Rattle.sshcore.proofs.RecordLemmas.{on_ok}
+use Rattle.sshcore.proofs.record_writing.put_record.Goals as goal
+
+pub returns-clause-adds : goal.returns-clause-adds
+returns-clause-adds c =
+    let r = record_data c.args.parts.now in
+    on_ok c.put_waiting.result
+    (λ waiting rest.
+    let waited = option_text packet_text r.waiting rest in
+    let read = reader_text r.reader waited in
+    let sent = sending_text r.sending read in
+    let carried = carried_text r.carried sent in
+    let authenticated = authentication_text r.authentication carried in
+    waiting rest ∙ (c.in_ok-put_reader.ensures.adds waited ∙ (c.in_ok-put_sending.ensures.adds read ∙ (c.in_ok-put_carried.ensures.adds sent
+    ∙ (c.in_ok-put_authentication.ensures.adds carried ∙ (c.in_ok-put_exchange.ensures.adds authenticated ∙ c.in_ok-put_front.ensures.adds (exchange_text r.exchange authenticated)))))))
+    c.put_waiting.ensures.adds
+
+pub returns-clause-fits : goal.returns-clause-fits
+returns-clause-fits c =
+    on_ok c.put_waiting.result
+    (λ waiting. record {
+      left = c.in_ok-put_front.ensures.fits;
+      exchange = c.in_ok-put_exchange.ensures.fits;
+      authentication = c.in_ok-put_authentication.ensures.fits;
+      carried = c.in_ok-put_carried.ensures.fits;
+      sending = c.in_ok-put_sending.ensures.fits;
+      reader = c.in_ok-put_reader.ensures.fits;
+      waiting = waiting;
+    })
+    c.put_waiting.ensures.fits

@@ -1,0 +1,56 @@
+-- What the record of a paused endpoint has: all that changes of it.
+
+use Rattle.std.specs.Prelude.{ℕ, Bool, List, Option}
+use Rattle.sshwire.specs.declared.share_form.ShareForm.{ShareForm}
+use Rattle.sshneg.specs.declared.side.Side.{Side}
+use Rattle.sshneg.specs.Fields.{AlgorithmsData}
+use Rattle.sshpacket.specs.KeysData.{KeysData}
+use Rattle.sshcore.specs.declared.table.Phase.{Phase}
+use Rattle.sshcore.specs.Output.{Sending}
+use Rattle.sshcore.specs.Reached.{ReachedData}
+use Rattle.sshcore.specs.StateData.{Carried}
+
+-- Of the exchange: the form of shares, whether both sides are strict, whether no payload was received, the peer's version line and its
+-- KEXINIT, the session identifier, and the names of a choice, once there is one.
+pub record ExchangeRecord : Type 0 where
+  pub shares : ShareForm
+  pub strict : Bool
+  pub first : Bool
+  pub version : List ℕ
+  pub kexinit : List ℕ
+  pub session : List ℕ
+  pub algorithms : Option AlgorithmsData
+
+-- Of authentication: the number of the next request, how many bytes of packets that say nothing may still come, where there is a limit,
+-- and what is reached.
+pub record AuthenticationRecord : Type 0 where
+  pub request : ℕ
+  pub allowance : Option ℕ
+  pub reached : ReachedData
+
+-- What it reads its bytes with: of lines, how many others it still accepts, and the unfinished line; of packets, the keys, the number
+-- of the next one, and the bytes of the unfinished one.
+pub data ReaderRecord : Type 0 where
+  OfLines : ℕ → List ℕ → ReaderRecord
+  OfPackets : Option KeysData → ℕ → List ℕ → ReaderRecord
+
+-- a packet that waits: its number and its payload; what it asks is told by these
+pub record PacketRecord : Type 0 where
+  pub number : ℕ
+  pub payload : List ℕ
+
+-- Its role; whether the first attempt that is left was confirmed, and how many are left; its phase, and whether the packet of a wrong
+-- guess is due; what it knows; what it carries along, and what it sends packets with; its reader; and the packet that waits, where one
+-- does.
+pub record RecordData : Type 0 where
+  pub role : Side
+  pub confirmed : Bool
+  pub left : ℕ
+  pub phase : Phase
+  pub guess : Bool
+  pub exchange : ExchangeRecord
+  pub authentication : AuthenticationRecord
+  pub carried : Carried
+  pub sending : Sending
+  pub reader : ReaderRecord
+  pub waiting : Option PacketRecord

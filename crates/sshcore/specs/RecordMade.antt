@@ -1,0 +1,150 @@
+-- What is made of a record, part by part; and that the endpoint which is made goes on from where the record was written.
+
+use Rattle.std.specs.Prelude.{ℕ, List, ◌≡◌, ◌≤◌, IfSome, IsUtf8, [], None, Option, Some, Result, is_some, length}
+use Rattle.sshwire.specs.declared.limits.TheConstants.{LINE_LIMIT}
+use Rattle.sshpacket.specs.declared.limits.TheConstants.{DIGEST_LIMIT, PACKET_LIMIT}
+use Rattle.sshwire.specs.LineReaderData.{Waits}
+use Rattle.sshwire.specs.declared.line_form.LineForm.{LineForm}
+use Rattle.sshpacket.specs.PacketReaderData.{packet_reader_data}
+use Rattle.sshpacket.specs.Parse.{parse_packet, protection, unfinished}
+use Rattle.sshpacket.specs.Suite.{SuiteData}
+use Rattle.sshcore.specs.declared.input.Input.{Input}
+use Rattle.sshcore.specs.declared.input.Input.TheVariants as input
+use Rattle.sshneg.specs.declared.side.Side.{Side}
+use Rattle.sshcore.specs.declared.config_parts.TheConstants.{TRIES_LIMIT}
+use Rattle.sshcore.specs.declared.record_fault.RecordFault.{RecordFault}
+use Rattle.sshcore.specs.declared.record_making.AuthenticationMade.{AuthenticationMade}
+use Rattle.sshcore.specs.declared.record_making.CarriedMade.{CarriedMade}
+use Rattle.sshcore.specs.declared.record_making.ExchangeMade.{ExchangeMade}
+use Rattle.sshcore.specs.declared.table.Phase.{Phase}
+use Rattle.sshcore.specs.Phases.{past_kexinit}
+use Rattle.sshcore.specs.AskingData.{WaitingData}
+use Rattle.sshcore.specs.Directions.{form_of}
+use Rattle.sshcore.specs.EndData.{Open}
+use Rattle.sshcore.specs.EndpointParts.{ConfigData, DecisionsData, Setup, setup_with}
+use Rattle.sshcore.specs.Paused.{FitsPaused, PausedAfter, PausedData, asked_paused, kept_by}
+use Rattle.sshcore.specs.Record.{HasKeyNames, HasNames, HasUserText, IsMadeSo, IsRecordOf}
+use Rattle.sshcore.specs.RecordData.{AuthenticationRecord, ExchangeRecord, OfLines, OfPackets, ReaderRecord, RecordData}
+use Rattle.sshcore.specs.StateData.{Carried, StateData, algorithms_or, reached_data, user_key_data}
+
+-- what an endpoint in this phase may know of the exchange
+pub record FitsPhase (p : Phase) (x : ExchangeRecord) : Type 0 where
+  pub version : length x.version ≤ LINE_LIMIT
+  pub kexinit : length x.kexinit ≤ PACKET_LIMIT
+  pub session : length x.session ≤ DIGEST_LIMIT
+  pub chosen : is_some x.algorithms ≡ past_kexinit p
+  pub names : IfSome x.algorithms HasNames
+
+-- what is known of the exchange is made so
+pub record IsExchange (x : ExchangeRecord) (m : ExchangeMade) : Type 0 where
+  pub version : m.version.items ≡ x.version
+  pub kexinit : m.kexinit.items ≡ x.kexinit
+  pub session : m.session.items ≡ x.session
+  pub algorithms : m.algorithms ≡ x.algorithms
+
+-- what an endpoint may know of authentication
+pub record FitsTries (a : AuthenticationRecord) : Type 0 where
+  pub request : a.request ≤ TRIES_LIMIT
+  pub user : IsUtf8 a.reached.user
+  pub service : IsUtf8 a.reached.service
+
+pub record IsAuthentication (a : AuthenticationRecord) (m : AuthenticationMade) : Type 0 where
+  pub request : m.request ≡ a.request
+  pub allowance : m.allowance ≡ a.allowance
+  pub reached : reached_data m.reached ≡ a.reached
+
+-- what is carried along has names and texts
+pub record HasCarriedTexts (c : Carried) : Type 0 where
+  pub pending : IfSome c.pending HasKeyNames
+  pub user_key : IfSome c.user_key HasUserText
+
+pub record IsCarriedSo (c : Carried) (m : CarriedMade) : Type 0 where
+  pub pending : m.pending ≡ c.pending
+  pub own_version : m.own_version.items ≡ c.own_version
+  pub host_key : m.host_key.items ≡ c.host_key
+  pub user_key : user_key_data m.user_key ≡ c.user_key
+
+-- what an endpoint may keep
+pub record FitsState (r : RecordData) : Type 0 where
+  pub exchange : FitsPhase r.phase r.exchange
+  pub authentication : FitsTries r.authentication
+  pub carried : HasCarriedTexts r.carried
+  pub keys : IfSome r.sending.keys HasKeyNames
+
+-- what an open endpoint keeps by its record, without attempts
+abbrev pub state_in : RecordData → StateData
+state_in r = record {
+  end = Open;
+  phase = r.phase;
+  guess = r.guess;
+  known = record {
+    version = r.exchange.version;
+    kexinit = r.exchange.kexinit;
+    algorithms = algorithms_or r.exchange.algorithms;
+    shares = r.exchange.shares;
+    session = r.exchange.session;
+    request = r.authentication.request;
+    left = [];
+    reached = r.authentication.reached;
+    strict = r.exchange.strict;
+    first = r.exchange.first;
+    allowance = r.authentication.allowance;
+  };
+  carried = r.carried;
+  sending = r.sending;
+}
+
+-- the bytes that a reader of packets holds are those of an unfinished one
+abbrev pub IsReaderOf : SuiteData → ReaderRecord → Type 0
+IsReaderOf m (OfLines left line) = Unit {0}
+IsReaderOf m (OfPackets keys number held) = parse_packet (protection m keys number) held ≡ unfinished
+
+-- a reader as the record says, of lines by this form
+abbrev pub IsInputOf : LineForm → ReaderRecord → Input → Type 0
+IsInputOf form (OfLines left line) (input.Lines r) = (r.state.progress ≡ Waits left line) × (r.form ≡ form)
+IsInputOf form (OfLines left line) (input.Packets r) = ⊥
+IsInputOf form (OfPackets keys number held) (input.Lines r) = ⊥
+IsInputOf form (OfPackets keys number held) (input.Packets r) = packet_reader_data r ≡ record { keys = keys; seq = number; held = held; fault = None }
+
+-- packets that wait are the same: their numbers, their payloads, and what they ask
+abbrev pub IsSameWaiting : Option WaitingData → Option WaitingData → Type 0
+IsSameWaiting None None = Unit {0}
+IsSameWaiting None (Some w) = ⊥
+IsSameWaiting (Some v) None = ⊥
+IsSameWaiting (Some v) (Some w) = (w.packet ≡ v.packet) × (w.payload ≡ v.payload) × (w.question ≡ v.question)
+
+-- a reader is as another, of lines by this form
+abbrev pub IsSameInput : LineForm → Input → Input → Type 0
+IsSameInput form (input.Lines r) (input.Lines q) = (q.state.progress ≡ r.state.progress) × (q.form ≡ form)
+IsSameInput form (input.Lines r) (input.Packets q) = ⊥
+IsSameInput form (input.Packets r) (input.Lines q) = ⊥
+IsSameInput form (input.Packets r) (input.Packets q) = packet_reader_data q ≡ packet_reader_data r
+
+-- a reader that has neither refused nor come to its end
+abbrev pub IsReading : Input → Type 0
+IsReading (input.Lines r) = (left : ℕ) × (line : List ℕ) × (r.state.progress ≡ Waits left line)
+IsReading (input.Packets r) = Unit {0}
+
+-- a paused endpoint keeps, reads and waits as another
+pub record IsSamePaused {S : Type 0} (role : Side) (party : ConfigData) (p q : PausedData S) : Type 0 where
+  pub kept : kept_by party q ≡ kept_by party p
+  pub input : IsSameInput (form_of party.reading role) p.input q.input
+  pub waiting : IsSameWaiting p.waiting q.waiting
+
+-- one that may be resumed so, reads on, and whose record this is
+pub record IsRecorded {S : Type 0} (meaning : S → SuiteData) (role : Side) (party : ConfigData) (suite : S) (bytes : List ℕ) (p : PausedData S) : Type 0 where
+  pub fits : FitsPaused meaning role party suite p
+  pub reading : IsReading p.input
+  pub is_record : IsRecordOf bytes p
+
+-- it has received and sent what another has, and asks the same
+pub record IsAsFar {S : Type 0} (setup : Setup) (h s : List ℕ) (p q : PausedData S) : Type 0 where
+  pub after : PausedAfter setup q h s
+  pub asks : asked_paused q ≡ asked_paused p
+
+-- Of the record of an endpoint, whatever it has received and sent with this config and this suite, one is made that is as far; unless
+-- memory runs out.
+abbrev pub GoesOnFrom : {S : Type 0} → (S → SuiteData) → Side → ConfigData → S → List ℕ → Result (PausedData S) RecordFault → Type 0
+GoesOnFrom {S} meaning role party suite bytes result =
+    (p : PausedData S) (d : DecisionsData) (h s : List ℕ) → IsRecordOf bytes p → FitsPaused meaning role party suite p
+    → PausedAfter (setup_with (meaning suite) d role party) p h s → IsMadeSo (IsAsFar (setup_with (meaning suite) d role party) h s p) result

@@ -1,0 +1,172 @@
+-- The record of a paused endpoint as bytes: what stands in it, one after the other, each with what follows it. A number is a uint32, a
+-- flag one of 0 or 1, bytes are a string (RFC 4251 section 5).
+
+use Rattle.std.specs.Prelude.{◌≡◌, ℕ, ◌<◌, ◌^◌, Bool, if◌then◌else◌, List, [], ◌++◌, length, Option, None, Some, IfSome}
+use Rattle.sshwire.specs.Types.{string, uint32}
+use Rattle.sshwire.specs.declared.share_form.ShareForm.{ShareForm}
+use Rattle.sshwire.specs.declared.share_form.ShareForm.TheVariants as form
+use Rattle.sshneg.specs.declared.side.Side.{Side}
+use Rattle.sshneg.specs.declared.side.Side.TheVariants.{Client, Server}
+use Rattle.sshneg.specs.Fields.{AlgorithmsData}
+use Rattle.sshpacket.specs.KeysData.{KeysData}
+use Rattle.sshcore.specs.declared.record_fault.TheConstants.{RECORD_VERSION}
+use Rattle.sshcore.specs.declared.table.Phase.{Phase}
+use Rattle.sshcore.specs.declared.table.Phase.TheVariants as phase
+use Rattle.sshcore.specs.EndpointParts.{UserKeyData}
+use Rattle.sshcore.specs.Output.{Sending}
+use Rattle.sshcore.specs.Reached.{ReachedData}
+use Rattle.sshcore.specs.RecordData.{AuthenticationRecord, ExchangeRecord, OfLines, OfPackets, PacketRecord, ReaderRecord, RecordData}
+use Rattle.sshcore.specs.StateData.{Carried}
+
+abbrev pub number_text : ℕ → List ℕ → List ℕ
+number_text n rest = uint32 n ++ rest
+
+abbrev pub flag_number : Bool → ℕ
+flag_number flag = if flag then 1 else 0
+
+abbrev pub flag_text : Bool → List ℕ → List ℕ
+flag_text flag rest = number_text (flag_number flag) rest
+
+abbrev pub bytes_text : List ℕ → List ℕ → List ℕ
+bytes_text bytes rest = string bytes ++ rest
+
+-- what may be missing: a flag, and where it is there what it is
+abbrev pub option_text : {A : Type 0} → (A → List ℕ → List ℕ) → Option A → List ℕ → List ℕ
+option_text text None rest = number_text 0 rest
+option_text text (Some a) rest = number_text 1 (text a rest)
+
+abbrev pub keys_text : KeysData → List ℕ → List ℕ
+keys_text k rest = bytes_text k.cipher (bytes_text k.mac (bytes_text k.iv (bytes_text k.enc (bytes_text k.mac_key rest))))
+
+abbrev pub names_text : AlgorithmsData → List ℕ → List ℕ
+names_text a rest =
+    bytes_text a.kex (bytes_text a.host_key (bytes_text a.encryption_client_to_server (bytes_text a.encryption_server_to_client
+    (bytes_text a.mac_client_to_server (bytes_text a.mac_server_to_client (bytes_text a.compression_client_to_server (bytes_text a.compression_server_to_client rest)))))))
+
+abbrev pub user_key_text : UserKeyData → List ℕ → List ℕ
+user_key_text k rest = bytes_text k.algorithm (bytes_text k.blob rest)
+
+abbrev pub packet_text : PacketRecord → List ℕ → List ℕ
+packet_text p rest = number_text p.number (bytes_text p.payload rest)
+
+abbrev pub role_number : Side → ℕ
+role_number Client = 0
+role_number Server = 1
+
+abbrev pub phase_number : Phase → ℕ
+phase_number phase.KexInit = 0
+phase_number phase.Exchange = 1
+phase_number phase.NewKeys = 2
+phase_number phase.Service = 3
+phase_number phase.Auth = 4
+
+abbrev pub form_number : ShareForm → ℕ
+form_number form.Mpint = 0
+form_number form.OctetString = 1
+form_number form.Hybrid = 2
+
+abbrev pub exchange_text : ExchangeRecord → List ℕ → List ℕ
+exchange_text x rest =
+    number_text (form_number x.shares) (flag_text x.strict (flag_text x.first
+    (bytes_text x.version (bytes_text x.kexinit (bytes_text x.session (option_text names_text x.algorithms rest))))))
+
+abbrev pub reached_text : ReachedData → List ℕ → List ℕ
+reached_text r rest = bytes_text r.user (bytes_text r.service (flag_text r.password (flag_text r.publickey rest)))
+
+abbrev pub authentication_text : AuthenticationRecord → List ℕ → List ℕ
+authentication_text a rest = number_text a.request (option_text number_text a.allowance (reached_text a.reached rest))
+
+abbrev pub carried_text : Carried → List ℕ → List ℕ
+carried_text c rest =
+    option_text keys_text c.pending (bytes_text c.own_version (bytes_text c.host_key (option_text user_key_text c.user_key rest)))
+
+abbrev pub sending_text : Sending → List ℕ → List ℕ
+sending_text s rest = option_text keys_text s.keys (number_text s.number rest)
+
+abbrev pub reader_text : ReaderRecord → List ℕ → List ℕ
+reader_text (OfLines left line) rest = number_text 0 (number_text left (bytes_text line rest))
+reader_text (OfPackets keys number held) rest = number_text 1 (option_text keys_text keys (number_text number (bytes_text held rest)))
+
+-- in front stand the version of records, the role, whether the first attempt that is left was confirmed, how many are left, the phase, and
+-- whether the packet of a wrong guess is due
+abbrev pub front_text : RecordData → List ℕ → List ℕ
+front_text r rest =
+    number_text RECORD_VERSION (number_text (role_number r.role) (flag_text r.confirmed (number_text r.left
+    (number_text (phase_number r.phase) (flag_text r.guess rest)))))
+
+abbrev pub record_text : RecordData → List ℕ → List ℕ
+record_text r rest =
+    front_text r (exchange_text r.exchange (authentication_text r.authentication (carried_text r.carried (sending_text r.sending
+    (reader_text r.reader (option_text packet_text r.waiting rest))))))
+
+abbrev pub record_bytes : RecordData → List ℕ
+record_bytes r = record_text r []
+
+-- these bytes were appended: whatever follows stands after the text
+abbrev pub Adds : (List ℕ → List ℕ) → List ℕ → List ℕ → Type 0
+Adds text old new = (rest : List ℕ) → new ++ rest ≡ old ++ text rest
+
+-- What can be written so, and read again: numbers below 2^32, and bytes that are fewer.
+
+abbrev pub IsShort : List ℕ → Type 0
+IsShort bytes = length bytes < 2 ^ 32
+
+pub record FitsKeys (k : KeysData) : Type 0 where
+  pub cipher : IsShort k.cipher
+  pub mac : IsShort k.mac
+  pub iv : IsShort k.iv
+  pub enc : IsShort k.enc
+  pub mac_key : IsShort k.mac_key
+
+pub record FitsNames (a : AlgorithmsData) : Type 0 where
+  pub kex : IsShort a.kex
+  pub host_key : IsShort a.host_key
+  pub encryption_client_to_server : IsShort a.encryption_client_to_server
+  pub encryption_server_to_client : IsShort a.encryption_server_to_client
+  pub mac_client_to_server : IsShort a.mac_client_to_server
+  pub mac_server_to_client : IsShort a.mac_server_to_client
+  pub compression_client_to_server : IsShort a.compression_client_to_server
+  pub compression_server_to_client : IsShort a.compression_server_to_client
+
+pub record FitsUserKey (k : UserKeyData) : Type 0 where
+  pub algorithm : IsShort k.algorithm
+  pub blob : IsShort k.blob
+
+pub record FitsPacketRecord (p : PacketRecord) : Type 0 where
+  pub number : p.number < 2 ^ 32
+  pub payload : IsShort p.payload
+
+pub record FitsExchange (x : ExchangeRecord) : Type 0 where
+  pub version : IsShort x.version
+  pub kexinit : IsShort x.kexinit
+  pub session : IsShort x.session
+  pub algorithms : IfSome x.algorithms FitsNames
+
+pub record FitsAuthentication (a : AuthenticationRecord) : Type 0 where
+  pub request : a.request < 2 ^ 32
+  pub allowance : IfSome a.allowance (λ n. n < 2 ^ 32)
+  pub user : IsShort a.reached.user
+  pub service : IsShort a.reached.service
+
+pub record FitsCarried (c : Carried) : Type 0 where
+  pub pending : IfSome c.pending FitsKeys
+  pub own_version : IsShort c.own_version
+  pub host_key : IsShort c.host_key
+  pub user_key : IfSome c.user_key FitsUserKey
+
+pub record FitsSending (s : Sending) : Type 0 where
+  pub keys : IfSome s.keys FitsKeys
+  pub number : s.number < 2 ^ 32
+
+abbrev pub FitsReader : ReaderRecord → Type 0
+FitsReader (OfLines left line) = (left < 2 ^ 32) × IsShort line
+FitsReader (OfPackets keys number held) = IfSome keys FitsKeys × (number < 2 ^ 32) × IsShort held
+
+pub record FitsRecord (r : RecordData) : Type 0 where
+  pub left : r.left < 2 ^ 32
+  pub exchange : FitsExchange r.exchange
+  pub authentication : FitsAuthentication r.authentication
+  pub carried : FitsCarried r.carried
+  pub sending : FitsSending r.sending
+  pub reader : FitsReader r.reader
+  pub waiting : IfSome r.waiting FitsPacketRecord

@@ -1,0 +1,80 @@
+//! What an endpoint reads its bytes with, made again from a record.
+
+ghost use Rattle.std.specs.Prelude.{◌≡◌, IfOk, None};
+ghost use Rattle.sshwire.specs.LineReaderData.{Waits};
+ghost use Rattle.sshwire.specs.Lines.{IsUnfinished};
+ghost use Rattle.sshpacket.specs.PacketReaderData.{ReaderWaits, packet_reader_data};
+ghost use Rattle.sshpacket.specs.Parse.{parse_packet, protection, unfinished};
+ghost use Rattle.sshcore.specs.Inputs.{CanRead};
+ghost use Rattle.sshcore.specs.Record.{HasLine, IsMadeSo};
+ghost use Rattle.sshcore.specs.RecordMade.{IsInputOf, IsReaderOf};
+ghost use Rattle.sshcore.specs.RecordView.{reader_record};
+
+use crate::input::Input;
+use crate::record_fault::RecordFault;
+use crate::record_making::optional_keys;
+use crate::record_parts::ReaderParts;
+use sshpacket::{Keys, PacketFault, PacketReader, PacketStep, Suite};
+use sshwire::{LineForm, PeerLineReader};
+use std::alloc::Global;
+
+/// A reader of lines that accepts so many others, and holds this unfinished one.
+fn lines_of(
+    alloc: Global,
+    others: u32,
+    form: LineForm,
+    line: &[u8],
+) -> Result<PeerLineReader, RecordFault>
+    ensures state { IfOk result (λ r. (r.state.progress ≡ Waits others line.now) × (r.form ≡ form)) }
+    ensures made { IsUnfinished line.now → IsMadeSo (λ r. (r.state.progress ≡ Waits others line.now) × (r.form ≡ form)) result }
+{
+    match PeerLineReader::going_on(alloc, others, form, line) {
+        Ok(Some(reader)) => Ok(reader),
+        Ok(None) => Err(RecordFault::Unreadable),
+        Err(_) => Err(RecordFault::Memory),
+    }
+}
+
+/// A reader of packets with these keys, of which the next has this number, and that holds these unfinished bytes.
+fn packets_of<S: Suite>(
+    alloc: Global,
+    suite: &S,
+    keys: Option<Keys>,
+    number: u32,
+    held: &[u8],
+) -> Result<PacketReader, RecordFault>
+    ensures waits { IfOk result (λ r. ReaderWaits (S.meaning suite.now) r) }
+    ensures made { parse_packet (protection (S.meaning suite.now) keys number) held.now ≡ unfinished
+        → IsMadeSo (λ r. packet_reader_data r ≡ record { keys = keys; seq = number; held = held.now; fault = None }) result }
+{
+    let mut reader = PacketReader::going_on(alloc, keys, number);
+    match reader.next(suite, held) {
+        Ok(PacketStep::More) => {}
+        Ok(PacketStep::Payload { .. }) => return Err(RecordFault::Unreadable),
+        Err(PacketFault::Memory) => return Err(RecordFault::Memory),
+        Err(_) => return Err(RecordFault::Unreadable),
+    }
+    Ok(reader)
+}
+
+/// What bytes are read with.
+pub(crate) fn input_of<S: Suite>(
+    alloc: Global,
+    parts: &ReaderParts<'_>,
+    suite: &S,
+    form: LineForm,
+) -> Result<Input, RecordFault>
+    ensures reads { IfOk result (λ i. CanRead (S.meaning suite.now) i) }
+    ensures made { HasLine (reader_record parts.now) → IsReaderOf (S.meaning suite.now) (reader_record parts.now)
+        → IsMadeSo (IsInputOf form (reader_record parts.now)) result }
+{
+    match parts {
+        ReaderParts::Lines { others, line } => {
+            Ok(Input::Lines(lines_of(alloc, *others, form, line)?))
+        }
+        ReaderParts::Packets { keys, number, held } => {
+            let keys = optional_keys(alloc, *keys)?;
+            Ok(Input::Packets(packets_of(alloc, suite, keys, *number, held)?))
+        }
+    }
+}
