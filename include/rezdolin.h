@@ -1,33 +1,47 @@
-/* SSH up to the authenticated user, as a client and as a server, and the packets of the session that goes on.
+/* SSH up to the authenticated user, as a client and as a server, and the packets of the session after that.
  *
- * An endpoint is a function of what it is made of, of whom it trusts (by lists, or by your answers to what it asks) and of
- * all bytes that it has received: so no handle is needed. The program keeps the bytes that came and its answers, hands all
- * of them to each call, and says by `skip` how many of the endpoint's bytes it has already. A call that ran out of memory is
- * made again; no call keeps anything. Calls of several threads share nothing.
+ * There is no handle, and nothing to free. You keep a record, the bytes of an endpoint between two calls: each call reads the
+ * record that the call before wrote, and writes the next one. A client:
  *
- * ALL PARTS OF A CONNECTION ARE THE SAME IN ALL ITS CALLS: lists, keys, draws, users and the answers given so far, as are the
- * bytes received so far. A list of users that is read anew between two calls is another list. With other parts a call seals
- * other packets at the same place of the stream, under the same key and number, which gives away what both say, and may
- * accept a request that was refused. Where less is sent than was skipped a call is REZDOLIN_UNREADABLE; nothing else tells.
+ *     a = rezdolin_client_begin(&client, next, sizeof next, out, sizeof out);
+ *     while (a.status == REZDOLIN_ANSWERED) {
+ *         (exchange `record` and `next`, wipe the old one, and send all `a.sent_len` bytes of `out`)
+ *         if (a.end == REZDOLIN_OPEN)        (take the bytes that weren't used; where there are none, read from the socket)
+ *             a = rezdolin_client_step(&client, record, a.record_len, piece, piece_len, next, sizeof next, out, ..
+ *         else if (a.end == REZDOLIN_ASKS)   (decide on the question in `told`: REZDOLIN_YES or REZDOLIN_NO)
+ *             a = rezdolin_client_answer(&client, record, a.record_len, decision, piece, 0, next, sizeof next, out, ..
+ *         else
+ *             break;                         (REZDOLIN_AUTHENTICATED: the session is in `told`)
+ *     }
  *
- *   - Link librezdolin.a and then liblibc_c.a, which ties it to malloc, realloc and free.
- *   - A pointer is never null, also where its length is 0; memory to write overlaps no other of the same call. Nothing
- *     else is asked of a caller: whatever bytes and numbers are put in, a call ends, and reads and writes no other memory.
- *   - A yes or no that is put in is a number, 1 or 0; another number is REZDOLIN_UNREADABLE.
- *   - A call makes all its work anew, so a peer that sends byte by byte costs the square of what it sends. Bound both:
- *     take no more than REZDOLIN_RECEIVED_LIMIT bytes from a peer that hasn't authenticated, and make no more than
- *     REZDOLIN_CALLS_LIMIT calls for them. Nothing new is answered before the last byte of a packet is there, so read
- *     what there is before a call, and where that is little wait some milliseconds for more. As measured (docs/BENCH.md):
- *     a session takes 6 calls of each side, 5 to 10 milliseconds of a processor for both; a client that is handed its 906
- *     bytes one by one takes 110 to 230; and a server's call on as many bytes as the limit allows, in the smallest
- *     packets, 10 to 18. That holds for ed25519 keys and chacha20-poly1305 alone: a request by an RSA key, and packets of
- *     aes256-gcm, cost a server many times as much, so with these the limits don't bound the work well. An answer to a
- *     question takes one call more, which counts too: so there are never more answers than REZDOLIN_CALLS_LIMIT.
- *   - Passwords of `users` are compared in a time that doesn't tell where they differ. With `asks` that is yours to do.
- *   - Nothing is wiped: the secrets that you hand in, the record, and a question with a password, are yours to wipe.
+ * bindings/c/session.h is that loop over a socket, bindings/c/serve.c a server of many connections.
  *
- * docs/USING.md has a client that asks a person, and a server that asks a directory. Codes (C1, F1, P1 and so on) are those
- * of its tables. */
+ *   1. Look at `status` first. Where it isn't REZDOLIN_ANSWERED nothing has changed: go on with the old record. The same call may
+ *      be made again.
+ *   2. Send all of `out` after each answered call, also where the endpoint has ended.
+ *   3. USE A RECORD FOR ONE ANSWERED CALL, and then only the next one. If you use a record twice and send what came of both, two
+ *      packets are sealed with one key and one number: who listens can read and forge packets.
+ *   4. ALL PARTS OF A CONNECTION ARE THE SAME IN ALL ITS CALLS: lists, keys, draws, users. A list that was read anew between two
+ *      calls is another list. A call with other parts is REZDOLIN_PARTS.
+ *   5. KEEP A RECORD AS YOU KEEP A PRIVATE KEY: never send it to a peer, and never keep it where another can read or write it.
+ *      WHOEVER CAN READ A RECORD HAS THE KEYS of the connection, can read the session and forge packets, and may get a password.
+ *      WHOEVER CAN CHANGE A RECORD CAN MAKE IT ONE OF AN AUTHENTICATED USER: nothing in it is signed. One that was changed is
+ *      REZDOLIN_RECORD only where it can't be read; else it is some endpoint that fits the parts, and may stand anywhere. An older
+ *      one of the connection is taken, too. Overwrite a record by rezdolin_wipe when the next one is there. What you put in, `told`,
+ *      and the states in a session are secret, too. The library wipes nothing by itself: memory that it used and freed may still
+ *      have keys.
+ *   6. Draw anew for each connection. With draws that were used before, what a client once sent is accepted again.
+ *   7. Close a connection that takes too long to authenticate: no call knows the time.
+ *   8. No pointer is null, also where its length is 0: for no bytes write REZDOLIN_TEXT(""), for an empty list the address of any
+ *      entry. `next`, `out` and `told` overlap neither each other nor anything that is read. Nothing else is asked of a caller:
+ *      whatever the bytes and numbers are, a call ends, and touches no other memory.
+ *
+ * A call's work is that of the parts, the record and the piece, however much came before; the record holds an unfinished packet, so
+ * read what there is, rather than byte by byte. Calls of several threads share nothing; for one connection make one call after the
+ * other.
+ *
+ * Link librezdolin.a and then liblibc_c.a, which ties it to malloc, realloc and free. docs/USING.md has tables of the codes C1 and so
+ * on ("Refused configs"), and F1 and so on ("Why it ended"). */
 #ifndef REZDOLIN_H
 #define REZDOLIN_H
 
@@ -44,65 +58,86 @@ typedef struct rezdolin_bytes {
     size_t len;
 } rezdolin_bytes;
 
-/* The bytes of a text between quotes, without its NUL. A pointer doesn't compile: of a string that the program has made write
+/* The bytes of a text between quotes, without its NUL, to begin a struct with. In an assignment write
+ * (rezdolin_bytes)REZDOLIN_TEXT("text"). A pointer doesn't compile: of a string that the program has made write
  * {(const uint8_t *)string, strlen(string)}. */
 #define REZDOLIN_TEXT(text) {(const uint8_t *)("" text ""), sizeof("" text "") - 1}
 
-/* Lists of names that the library and peers in use have. The library also has the cipher aes256-gcm@openssh.com: it works where
- * both sides are strict, and is slow. */
+/* Lists of names that the library and peers in use have. The library also has the method diffie-hellman-group14-sha256, and the
+ * cipher aes256-gcm@openssh.com, which works where both sides are strict, and is slow. */
 #define REZDOLIN_KEX "curve25519-sha256,curve25519-sha256@libssh.org"
 #define REZDOLIN_HOST_KEY "ssh-ed25519"
 #define REZDOLIN_CIPHERS "chacha20-poly1305@openssh.com"
 #define REZDOLIN_MACS \
     "hmac-sha2-256-etm@openssh.com,hmac-sha2-512-etm@openssh.com,hmac-sha2-256,hmac-sha2-512,hmac-sha1"
 
-/* More than a peer has to send to be authenticated by a handful of requests, and more calls than that takes. */
-#define REZDOLIN_RECEIVED_LIMIT 262144
-#define REZDOLIN_CALLS_LIMIT 128
+/* Room for each record of an endpoint. Most have some 2000 bytes: keep them in as many bytes as they have. */
+#define REZDOLIN_RECORD_ROOM 160036
+/* Room for each `told`. */
+#define REZDOLIN_TOLD_ROOM 65536
+/* Room for each packet and each payload, of rezdolin_seal and rezdolin_open. */
+#define REZDOLIN_PACKET_ROOM 35000
+/* Room for what a call sends where a piece has up to 4096 bytes, and the plan, the banner and the keys are of usual sizes. Any
+ * call that has to send more is REZDOLIN_ROOM, and `sent_len` says how much. */
+#define REZDOLIN_OUT_ROOM 65536
 
 /* How many bytes of packets that say nothing an endpoint takes after NEWKEYS: IGNORE, DEBUG, UNIMPLEMENTED, EXT_INFO and numbers
  * without a meaning, each with its payload and 276 bytes more. What goes beyond is F17. */
 #define REZDOLIN_IGNORED_LIMIT 1048576
 
-/* The room that each record and each packet fits in that the library makes. */
-#define REZDOLIN_RECORD_ROOM 65536
-#define REZDOLIN_PACKET_ROOM 35000
-
-/* The room that each question fits in. */
-#define REZDOLIN_QUESTION_ROOM 36000
-
 /* What came of a call. */
 enum {
     REZDOLIN_ANSWERED = 0,
-    REZDOLIN_MEMORY = 1,     /* memory ran out: the same call may be made again */
+    REZDOLIN_MEMORY = 1,     /* memory ran out */
     REZDOLIN_CONFIG = 2,     /* the parts make no config; `config` says why */
-    REZDOLIN_UNREADABLE = 3, /* a text isn't UTF-8, a number isn't one of its field's, 0 too where 0 isn't one; an entry of `users`
-                              * has no user, no proof where its method wants one, or one where it wants none; an answer is
-                              * neither 0 nor 1, or there are more answers than questions; `skip` is more than was sent. Of the
-                              * other calls: a secret hasn't its length, a state isn't one */
-    REZDOLIN_ROOM = 4,       /* a room is too small: of an endpoint `session` or `question`, and `session_len` and
-                              * `question_len` say what they have to take; of the other calls `out`, and `len` says it. The same
-                              * call may be made again with more room */
+    REZDOLIN_UNREADABLE = 3, /* a number isn't one of its field's (0 too where 0 isn't one); a text isn't UTF-8; an entry of
+                              * `users` has no user, no proof where its method needs one, or one where it needs none; a key is
+                              * said to be elsewhere and `asks` is 0; an answer is no answer's number, or has a signature where
+                              * it needs none, or none where it needs one. Of the other calls: a secret hasn't its length, or a
+                              * state isn't one */
+    REZDOLIN_ROOM = 4,       /* a room is too small: of an endpoint `sent_len`, `record_len` and `told_len` say what `out`,
+                              * `next` and `told` have to take; of the other calls `len` says it for `out` */
     REZDOLIN_PAYLOAD = 5,    /* a payload has 1 to 32768 bytes */
     REZDOLIN_USED_UP = 6,    /* 2^31 packets went in this direction: end the connection */
     REZDOLIN_PACKET = 7,     /* what came is no packet; `fault` says why: end the connection */
-    REZDOLIN_MORE = 8        /* the packet isn't all there */
+    REZDOLIN_MORE = 8,       /* the packet isn't all there */
+    REZDOLIN_RECORD = 9,     /* these bytes can't be read as a record of this version of the library. An endpoint that has ended has
+                              * none. That nobody has changed a record isn't checked */
+    REZDOLIN_PARTS = 10,     /* the record is one for other parts than these, or for the other role */
+    REZDOLIN_UNASKED = 11,   /* the endpoint asks nothing, or something that is answered otherwise */
+    REZDOLIN_IDENTITY = 12   /* a text has no private key that can be used; `fault` says why */
 };
 
-/* How an endpoint stands. 4 is kept for an end that no call answers yet. */
+/* How an endpoint stands. Only at REZDOLIN_OPEN and REZDOLIN_ASKS is there a record to go on with. */
 enum {
-    REZDOLIN_OPEN = 0,
-    REZDOLIN_AUTHENTICATED = 1,
-    REZDOLIN_FAILED = 2, /* `fault` and `detail` say why */
-    REZDOLIN_CLOSED = 3, /* the peer sent a DISCONNECT; `detail` is its reason */
-    REZDOLIN_ASKS = 5    /* it waits for the answer to its question: call again with one answer more (below, at the calls) */
+    REZDOLIN_OPEN = 0,          /* it takes the next piece */
+    REZDOLIN_AUTHENTICATED = 1, /* `told` has the session's record */
+    REZDOLIN_FAILED = 2,        /* `fault` and `detail` say why */
+    REZDOLIN_CLOSED = 3,        /* the peer sent a DISCONNECT; `detail` is its reason */
+    REZDOLIN_DISCONNECTED = 4,  /* you told it to disconnect; `detail` is your reason */
+    REZDOLIN_ASKS = 5           /* it waits for your answer; `told` has the question */
+};
+
+/* Answers to a question. None is 0. */
+enum {
+    REZDOLIN_YES = 1,
+    REZDOLIN_NO = 2,
+    REZDOLIN_SIGNATURE = 3,   /* to REZDOLIN_ASKS_SIGNATURE, with the signature */
+    REZDOLIN_NO_SIGNATURE = 4 /* to REZDOLIN_ASKS_SIGNATURE: a client tries the method none in its place, a server ends as F9 */
 };
 
 /* Methods of authentication. None is 0, so a field that was left out is REZDOLIN_UNREADABLE. */
 enum {
     REZDOLIN_METHOD_NONE = 0x6e6f6e65, /* the letters of "none" */
     REZDOLIN_METHOD_PASSWORD = 1,
-    REZDOLIN_METHOD_PUBLICKEY = 2
+    REZDOLIN_METHOD_PUBLICKEY = 2,
+    REZDOLIN_METHOD_SIGNED = 3 /* of an attempt: publickey, by a private key that the library doesn't get. You are asked to sign */
+};
+
+/* Where the private half of a host key is. Neither is 0. */
+enum {
+    REZDOLIN_KEY_HERE = 1,
+    REZDOLIN_KEY_ELSEWHERE = 2 /* you are asked to sign */
 };
 
 /* Whether a side is willing to be strict. Neither is 0. */
@@ -140,8 +175,10 @@ typedef struct rezdolin_side {
 typedef struct rezdolin_attempt {
     rezdolin_bytes user;      /* at most 255 bytes */
     rezdolin_bytes service;   /* "ssh-connection" as a rule */
-    rezdolin_bytes algorithm; /* of a key: "ssh-ed25519" */
-    rezdolin_bytes secret;    /* the password, or the 32 bytes of the private key (RFC 8032 section 5.1.5) */
+    rezdolin_bytes algorithm; /* of a key: "ssh-ed25519"; of REZDOLIN_METHOD_SIGNED any that its signer has */
+    rezdolin_bytes secret;    /* PASSWORD: the password. PUBLICKEY: the 32 bytes of the private key of ssh-ed25519 (RFC 8032
+                               * section 5.1.5). SIGNED: the public key, as an agent lists it (`config`, 14). It is sent to the
+                               * server: put no private key there */
     uint32_t method;          /* REZDOLIN_METHOD_ */
     uint32_t ask;             /* of a key: 1 to ask first whether it would do, or 0 */
 } rezdolin_attempt;
@@ -151,25 +188,27 @@ typedef struct rezdolin_client_input {
     rezdolin_bytes server_host_key_algorithms;
     const rezdolin_attempt *plan; /* in order, at most 64 */
     size_t plan_len;
-    const rezdolin_bytes *trusted_host_keys; /* public keys, as the server sends them */
+    const rezdolin_bytes *trusted_host_keys; /* public keys, as the server sends them: what the base64 of a .pub file decodes to */
     size_t trusted_host_keys_len;
     uint32_t guess; /* 1 to send the share at once, or 0 */
-    uint32_t asks;  /* 1: you are asked whether the host key is trusted, and `trusted_host_keys` isn't read; or 0 */
-    rezdolin_bytes answers; /* where it asks: one byte to each question so far, in order, 1 for yes, 0 for no */
+    uint32_t asks;  /* 1: you are asked whether the host key is trusted, and for signatures; `trusted_host_keys` isn't read; or 0 */
 } rezdolin_client_input;
 
 typedef struct rezdolin_host_key {
-    rezdolin_bytes algorithm;   /* "ssh-ed25519" */
-    rezdolin_bytes private_key; /* 32 bytes (RFC 8032 section 5.1.5) */
+    rezdolin_bytes algorithm; /* "ssh-ed25519"; of KEY_ELSEWHERE also "rsa-sha2-512" or "rsa-sha2-256" */
+    rezdolin_bytes key;       /* KEY_HERE: the 32 bytes of the private key (RFC 8032 section 5.1.5). KEY_ELSEWHERE: the public key
+                               * (`config`, 14). It is sent to each client: put no private key there */
+    uint32_t place;           /* REZDOLIN_KEY_ */
 } rezdolin_host_key;
 
 /* What one user is accepted by. A user may have several entries. One that can't be read makes the whole list
  * REZDOLIN_UNREADABLE. A key may be of ssh-ed25519 or of RSA (its blob is named ssh-rsa): a client that asks (RFC 8308) is told
- * server-sig-algs "ssh-ed25519,rsa-sha2-512,rsa-sha2-256" right after NEWKEYS, whatever the entries are. */
+ * server-sig-algs "ssh-ed25519,rsa-sha2-512,rsa-sha2-256" right after NEWKEYS, whatever the entries are. Passwords are compared in
+ * a time that doesn't tell where they differ. */
 typedef struct rezdolin_user {
     rezdolin_bytes user;  /* not empty */
     rezdolin_bytes proof; /* the password, or the public key as a request has it, not empty; of NONE no bytes */
-    uint32_t method;      /* REZDOLIN_METHOD_; with NONE the user is accepted without a proof */
+    uint32_t method;      /* REZDOLIN_METHOD_NONE, _PASSWORD or _PUBLICKEY; with NONE the user is accepted without a proof */
 } rezdolin_user;
 
 typedef struct rezdolin_server_input {
@@ -182,83 +221,102 @@ typedef struct rezdolin_server_input {
     rezdolin_bytes banner;   /* no bytes: none is sent */
     const rezdolin_bytes *notice_lines; /* before the version line */
     size_t notice_lines_len;
-    const rezdolin_user *users;
+    const rezdolin_user *users; /* read whole by each call: with a long list set `asks` */
     size_t users_len;
     uint32_t tries; /* the request at which a failure ends the session, 1 to 20 */
-    uint32_t asks;  /* 1: you are asked who is accepted, and `users` isn't read; or 0 */
-    rezdolin_bytes answers; /* where it asks: one byte to each question so far, in order, 1 for yes, 0 for no */
+    uint32_t asks;  /* 1: you are asked who is accepted, and for signatures; `users` isn't read; or 0 */
 } rezdolin_server_input;
 
-/* What an endpoint answers. Where `status` isn't REZDOLIN_ANSWERED `out` is unchanged, and all else is 0 but what says why. */
-typedef struct rezdolin_endpoint_answer {
-    uint32_t status; /* REZDOLIN_ANSWERED, _MEMORY, _CONFIG, _UNREADABLE or _ROOM */
+/* What a call of an endpoint answers. Where `status` isn't REZDOLIN_ANSWERED all else is 0 but what says why. */
+typedef struct rezdolin_step_answer {
+    uint32_t status; /* REZDOLIN_ANSWERED, _MEMORY, _CONFIG, _UNREADABLE, _ROOM, _RECORD, _PARTS or _UNASKED */
     uint32_t config; /* of REZDOLIN_CONFIG: 1 for C1 and so on; 13: a list names an algorithm that the library hasn't; 14: a
-                      * private key hasn't 32 bytes; else 0 */
+                      * private key that is here isn't 32 bytes of ssh-ed25519, or what stands for one that is elsewhere isn't a
+                      * public key. By its form that is a string with the name ssh-ed25519 and one of 32 bytes, or a string with
+                      * another name and two more (RSA, ECDSA), of sk-ecdsa-sha2-nistp256@openssh.com three, and no byte after it;
+                      * else 0 */
     uint32_t end;    /* REZDOLIN_OPEN and so on */
     uint32_t fault;  /* of REZDOLIN_FAILED: 1 for F1 and so on; else 0 */
-    uint32_t detail; /* F5, F6, F7: the message; F8: the field, 1 to 8; of REZDOLIN_CLOSED: the reason; else 0 */
-    size_t used;     /* of the bytes received: all while it is open, and of REZDOLIN_ASKS up to the packet that asks. What
-                      * stands after them where it is authenticated is for rezdolin_open */
-    size_t sent;     /* bytes that the endpoint has sent since it began: send them all, also where it has ended */
-    size_t written;  /* of these, from `skip` on, to `out`; call again while `skip` + `written` is below `sent` */
-    size_t session_len; /* of REZDOLIN_AUTHENTICATED, and of a record that lacks room: the record's length; else 0 */
-    size_t question_len; /* of REZDOLIN_ASKS, and of a question that lacks room: the question's length; else 0 */
-} rezdolin_endpoint_answer;
+    uint32_t detail; /* F5, F6, F7: the message; F8: the field, 1 to 8 in the order of the KEXINIT; of CLOSED and DISCONNECTED: the
+                      * reason; else 0 */
+    size_t used;     /* of the piece: all while it is open. At REZDOLIN_ASKS those up to the packet that asks: keep the others, and
+                      * hand them in by a step after the answer. At REZDOLIN_AUTHENTICATED the others are for rezdolin_open */
+    size_t sent_len;   /* bytes of `out`: send them */
+    size_t record_len; /* bytes of `next`: the record to go on with; 0 where the endpoint has ended */
+    size_t told_len;   /* bytes of `told`: the question at REZDOLIN_ASKS, the session at REZDOLIN_AUTHENTICATED; else 0 */
+} rezdolin_step_answer;
 
 /* What a call answers that makes bytes. */
 typedef struct rezdolin_bytes_answer {
     uint32_t status;
-    uint32_t fault; /* of REZDOLIN_PACKET: 1 for P1 and so on; else 0 */
+    uint32_t fault; /* of REZDOLIN_PACKET 1: its length isn't taken, 2: its padding isn't, 3: it has no payload, 4: its tag is
+                     * wrong; of REZDOLIN_IDENTITY as at rezdolin_read_identity; else 0 */
     size_t used;    /* of the bytes received */
     size_t len;     /* bytes written; of REZDOLIN_ROOM: bytes that there has to be room for */
 } rezdolin_bytes_answer;
 
-/* A client that has received these bytes, and a server: what it sends for them. With nothing received it answers what
- * it sends first. `session` is filled with the record of the session where the endpoint ended authenticated; `question` with
- * the question where it stands at REZDOLIN_ASKS. Where one doesn't fit, in a room of 0 bytes too, the call answers
- * REZDOLIN_ROOM and nothing else. Whatever a call answers, it first writes 0 to the first four bytes of both rooms, or as many as
- * they have: the first field is then empty, so what an earlier call put there is read no more.
+/* The calls of an endpoint.
  *
- * Where no list can say whom it trusts, since a person or a directory has to be asked, set `asks`. At a question a call then
- * stands at REZDOLIN_ASKS:
- *   1. Send what it sends, as ever.
- *   2. Read the question's fields by rezdolin_field (REZDOLIN_QUESTION_KEY and so on), with the answer's `question_len` as the
- *      length, never the room's. To a person show the key, or its SHA-256 in base64, which OpenSSH calls its fingerprint; look users up by
- *      REZDOLIN_QUESTION_USER and compare REZDOLIN_QUESTION_PASSWORD or REZDOLIN_QUESTION_KEY.
- *   3. Take your time: no call has to be made meanwhile, and what comes meanwhile waits in its socket, or in your buffer. The
- *      peer may not wait for ever, as OpenSSH's server does for two minutes.
- *   4. Put a byte after your answers so far, 1 for yes or 0 for no, and call again, with all bytes received from the first one
- *      on. The call comes to the same questions, takes each answer for its own, and goes on after the last; it may stand
- *      at REZDOLIN_ASKS again.
- * Keep all answers up to the last call, and put in none that wasn't asked for: that is REZDOLIN_UNREADABLE.
+ * begin makes one that has received nothing, and step has it take a piece of what the peer sends, of any length. Where it asks,
+ * a step takes nothing and asks the same again: leave the bytes in the socket until you have the answer. answer takes one of
+ * REZDOLIN_YES and so on, with a signature where it is REZDOLIN_SIGNATURE, and none else; then step with the bytes that weren't
+ * used. disconnect sends a DISCONNECT (RFC 4253 section 11.1) with a description in UTF-8 of at most 1024 bytes, and ends the
+ * endpoint. To give up without a word, and where the peer has gone, close the socket and wipe the record.
  *
- * A client asks once: a yes means that the key is the server's. A server asks of each request that proves something (also of
- * the method none), and of each key that a client asks about. A yes to a request accepts the user, unless `required` wants
- * more; a yes to the question about a key accepts nobody: a signed request follows, about which it asks again. */
-rezdolin_endpoint_answer rezdolin_client(const rezdolin_client_input *client, const uint8_t *received,
-                                         size_t received_len, size_t skip, uint8_t *out, size_t out_len,
-                                         uint8_t *session, size_t session_len, uint8_t *question, size_t question_len);
-rezdolin_endpoint_answer rezdolin_server(const rezdolin_server_input *server, const uint8_t *received,
-                                         size_t received_len, size_t skip, uint8_t *out, size_t out_len,
-                                         uint8_t *session, size_t session_len, uint8_t *question, size_t question_len);
+ * A client asks once whether a key is the server's, and once for each signature. A server asks of each request that proves
+ * something, of the method none too, of each key that a client asks about, and once for a signature. A yes to a request accepts the
+ * user, unless `required` has more; a yes to a key that is asked about accepts nobody: a signed request follows, about which it asks
+ * again. Take your time; the peer may not wait for ever, as OpenSSH's server does for two minutes.
+ *
+ * step and answer first write 0 to the first four bytes of `told`, so that no question of an earlier call is read again. */
+rezdolin_step_answer rezdolin_client_begin(const rezdolin_client_input *client, uint8_t *next, size_t next_len, uint8_t *out,
+                                           size_t out_len);
+rezdolin_step_answer rezdolin_client_step(const rezdolin_client_input *client, const uint8_t *record, size_t record_len,
+                                          const uint8_t *piece, size_t piece_len, uint8_t *next, size_t next_len, uint8_t *out,
+                                          size_t out_len, uint8_t *told, size_t told_len);
+rezdolin_step_answer rezdolin_client_answer(const rezdolin_client_input *client, const uint8_t *record, size_t record_len,
+                                            uint32_t answer, const uint8_t *signature, size_t signature_len, uint8_t *next,
+                                            size_t next_len, uint8_t *out, size_t out_len, uint8_t *told, size_t told_len);
+rezdolin_step_answer rezdolin_client_disconnect(const rezdolin_client_input *client, const uint8_t *record, size_t record_len,
+                                                uint32_t reason, const uint8_t *description, size_t description_len, uint8_t *out,
+                                                size_t out_len);
 
-/* The public key of the 32 bytes of a private key. It has 51 bytes. */
-rezdolin_bytes_answer rezdolin_public_key(const uint8_t *private_key, size_t private_key_len, uint8_t *out,
-                                          size_t out_len);
+rezdolin_step_answer rezdolin_server_begin(const rezdolin_server_input *server, uint8_t *next, size_t next_len, uint8_t *out,
+                                           size_t out_len);
+rezdolin_step_answer rezdolin_server_step(const rezdolin_server_input *server, const uint8_t *record, size_t record_len,
+                                          const uint8_t *piece, size_t piece_len, uint8_t *next, size_t next_len, uint8_t *out,
+                                          size_t out_len, uint8_t *told, size_t told_len);
+rezdolin_step_answer rezdolin_server_answer(const rezdolin_server_input *server, const uint8_t *record, size_t record_len,
+                                            uint32_t answer, const uint8_t *signature, size_t signature_len, uint8_t *next,
+                                            size_t next_len, uint8_t *out, size_t out_len, uint8_t *told, size_t told_len);
+rezdolin_step_answer rezdolin_server_disconnect(const rezdolin_server_input *server, const uint8_t *record, size_t record_len,
+                                                uint32_t reason, const uint8_t *description, size_t description_len, uint8_t *out,
+                                                size_t out_len);
 
-/* Seals a payload of 1 to 32768 bytes. `state` is REZDOLIN_OUTGOING of a record, and its numbers are raised in place;
- * `padding_seed` has 32 bytes drawn for this session alone. */
-rezdolin_bytes_answer rezdolin_seal(uint8_t *state, size_t state_len, const uint8_t *padding_seed,
-                                    size_t padding_seed_len, const uint8_t *payload, size_t payload_len, uint8_t *out,
-                                    size_t out_len);
+/* Overwrites bytes with zeros. No compiler leaves this out. */
+void rezdolin_wipe(uint8_t *bytes, size_t bytes_len);
+
+/* The public key of the 32 bytes of a private key of ssh-ed25519. It has 51 bytes. */
+rezdolin_bytes_answer rezdolin_public_key(const uint8_t *private_key, size_t private_key_len, uint8_t *out, size_t out_len);
+
+/* The private key in the text of a file as `ssh-keygen -t ed25519` writes it: its 32 bytes, for an attempt or a host key. Where there is
+ * none it answers REZDOLIN_IDENTITY, and `fault` is 1: no key; 2: a public key; 3: a private key in another form, as PEM; 4: it has a
+ * passphrase; 5: it is of RSA, 6: of ECDSA, 7: of another kind; 8: several keys, or none; 9: it ends too early; 10: its public key
+ * isn't that of its private one; 11: what fills it up is wrong. */
+rezdolin_bytes_answer rezdolin_read_identity(const uint8_t *text, size_t text_len, uint8_t *out, size_t out_len);
+
+/* Seals a payload of 1 to 32768 bytes. `state` is REZDOLIN_OUTGOING of a session's record, and its numbers are raised in place: never
+ * seal by a copy of it, too. `padding_seed` has 32 bytes drawn for this session alone, not those of the side. */
+rezdolin_bytes_answer rezdolin_seal(uint8_t *state, size_t state_len, const uint8_t *padding_seed, size_t padding_seed_len,
+                                    const uint8_t *payload, size_t payload_len, uint8_t *out, size_t out_len);
 
 /* Opens the packet at the front of what was received and not used: first what the endpoint didn't use, then what
- * comes. `state` is REZDOLIN_INCOMING of a record, and its numbers are raised in place; `out` gets the payload. Go on
+ * comes. `state` is REZDOLIN_INCOMING of a session's record, and its numbers are raised in place; `out` gets the payload. Go on
  * after `used` bytes. With REZDOLIN_MORE read on and hand in all from the packet's first byte again. */
-rezdolin_bytes_answer rezdolin_open(uint8_t *state, size_t state_len, const uint8_t *received, size_t received_len,
-                                    uint8_t *out, size_t out_len);
+rezdolin_bytes_answer rezdolin_open(uint8_t *state, size_t state_len, const uint8_t *received, size_t received_len, uint8_t *out,
+                                    size_t out_len);
 
-/* The fields of a record, each as a uint32 with its length and so many bytes. */
+/* The fields of a session's record (rezdolin_field). */
 enum {
     REZDOLIN_INCOMING = 0,           /* the state of what the peer sends: keys, secret */
     REZDOLIN_OUTGOING = 1,           /* the state of what is sent: keys, secret */
@@ -282,26 +340,33 @@ enum {
     REZDOLIN_BY_KEY = 19             /* of a server where a key succeeded: the public key; else no byte */
 };
 
-/* What a question asks of: the first field of its record. */
+/* What is asked: the one byte of REZDOLIN_QUESTION_KIND. */
 enum {
     REZDOLIN_ASKS_HOST_KEY = 0, /* of a client: is this the server's key? */
-    REZDOLIN_ASKS_USER = 1      /* of a server: is this user accepted by this, or would this key do? */
+    REZDOLIN_ASKS_USER = 1,     /* of a server: is this user accepted by this, or would this key do? */
+    REZDOLIN_ASKS_SIGNATURE = 2 /* a signature of REZDOLIN_QUESTION_INPUT, by this key and this algorithm. It is a uint32 with the
+                                 * length of the algorithm's name, the name, a uint32 with the length of the signature's own bytes,
+                                 * and these (RFC 4253 section 6.6), as ssh-agent gives it, and has at most 8192 bytes. Verify one of
+                                 * RSA before you hand it in: a faulty one can give the private key away */
 };
 
-/* The fields of a question, in the form of a record. Any of them may be what the peer wants it to be: show no text of it
- * without a filter of control characters. */
+/* The fields of a question (rezdolin_field, with `told_len`, never the room's length). Any of them may be what the peer wants it
+ * to be: show no text of it without a filter of control characters. */
 enum {
-    REZDOLIN_QUESTION_KIND = 0,      /* one byte, REZDOLIN_ASKS_HOST_KEY or REZDOLIN_ASKS_USER */
+    REZDOLIN_QUESTION_KIND = 0,      /* one byte, REZDOLIN_ASKS_HOST_KEY and so on */
     REZDOLIN_QUESTION_NUMBER = 1,    /* of a user: the number of the request, from 1 on, in 4 bytes, the highest first */
     REZDOLIN_QUESTION_USER = 2,      /* of a user: the name */
     REZDOLIN_QUESTION_SERVICE = 3,   /* of a user: the service that is to start */
     REZDOLIN_QUESTION_METHOD = 4,    /* of a user: REZDOLIN_METHOD_, in 4 bytes, the highest first. With NONE nothing is proved */
-    REZDOLIN_QUESTION_ALGORITHM = 5, /* of a key: the algorithm as the peer names it; decide by the key */
-    REZDOLIN_QUESTION_KEY = 6,       /* the server's public key, or the user's. A yes accepts the key; a signature is verified after it */
-    REZDOLIN_QUESTION_PASSWORD = 7   /* of a password: the password, secret */
+    REZDOLIN_QUESTION_ALGORITHM = 5, /* of a key: the algorithm as the peer names it; decide by the key. Of a signature: its algorithm */
+    REZDOLIN_QUESTION_KEY = 6,       /* the server's public key, the user's, or the one to sign by. Show a person its SHA-256 in base64,
+                                      * which OpenSSH calls its fingerprint. A yes accepts the key; a signature is verified after it */
+    REZDOLIN_QUESTION_PASSWORD = 7,  /* of a user: the password, secret. Compare it in a time that doesn't tell where it differs */
+    REZDOLIN_QUESTION_INPUT = 7      /* of a signature: what is to be signed */
 };
 
-/* Where a field of a record of `len` bytes stands, and how many bytes it has; null where there is no such field. */
+/* Where a field of a session's record or of a question stands, and how many bytes it has; null where there is no such field. Each
+ * field is a uint32 with its length and so many bytes. */
 static inline uint8_t *rezdolin_field(uint8_t *record, size_t len, unsigned field, size_t *field_len) {
     while (len >= 4) {
         size_t size = (size_t)record[0] << 24 | (size_t)record[1] << 16 | (size_t)record[2] << 8 | (size_t)record[3];

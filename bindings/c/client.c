@@ -6,18 +6,14 @@
  * KEY-FILE has the host key's bytes, which `cut -d' ' -f2 host.pub | base64 -d` gives; where it is `-`, a person is asked.
  * Its status is 0 where the command was run, 1 where the server didn't let it, and 2 where it can't begin. */
 #define _DEFAULT_SOURCE
-#include "rezdolin.h"
+#include "session.h"
 #include <stdbool.h>
 #include <stdio.h>
-#include <string.h>
 #include <sys/random.h>
-#include <unistd.h>
 
-static uint8_t received[REZDOLIN_RECEIVED_LIMIT], out[REZDOLIN_PACKET_ROOM], record[REZDOLIN_RECORD_ROOM];
-static size_t len; /* of what was received and isn't done with */
-static size_t session_len;
-static uint8_t question[REZDOLIN_QUESTION_ROOM], answers[1], drawn[112];
-static FILE *peer, *person;
+static session s;
+static uint8_t drawn[112], out[REZDOLIN_PACKET_ROOM], received[2 * REZDOLIN_PACKET_ROOM];
+static size_t session_len, len; /* of the session's record in `s.told`, and of what was received and isn't done with */
 
 /* The bytes of a file, at most `room`. */
 static rezdolin_bytes bytes_of(const char *path, uint8_t *at, size_t room) {
@@ -28,71 +24,60 @@ static rezdolin_bytes bytes_of(const char *path, uint8_t *at, size_t room) {
     return bytes;
 }
 
-static bool send_all(const uint8_t *at, size_t count) {
-    return fwrite(at, 1, count, peer) == count && fflush(peer) == 0;
-}
-
-/* Reads what there is after what was received. */
-static bool receive(void) {
-    ssize_t n = len < sizeof received ? read(0, received + len, sizeof received - len) : 0;
-    len += n > 0 ? (size_t)n : 0;
-    return n > 0;
-}
-
 /* Shows a person at the terminal the key of the question, and asks whether it is the server's: by digits that only the question
  * tells, since a `yes` may have been typed before it stood there. */
-static bool is_trusted(size_t question_len) {
-    size_t count, n = 0;
-    char last[8], typed[8];
+static uint32_t ask_person(uint8_t *question, size_t question_len, uint8_t *signature, size_t *signature_len) {
+    size_t count;
+    char last[8] = "", typed[8] = "";
     const uint8_t *key = rezdolin_field(question, question_len, REZDOLIN_QUESTION_KEY, &count);
-    for (person = fopen("/dev/tty", "r+"); person && n < count; n++)
+    FILE *person = fopen("/dev/tty", "r+");
+    (void)signature, (void)signature_len; /* no key is elsewhere */
+    if (!person || count < 3)
+        return REZDOLIN_NO;
+    for (size_t n = 0; n < count; n++)
         fprintf(person, "%02x", key[n]);
-    if (!person || count < 3 || fputs("\nthe server's key: type its last 6 digits to trust it: ", person) < 0 || fflush(person) != 0)
-        return false;
+    fputs("\nthe server's key: type its last 6 digits to trust it: ", person);
     snprintf(last, sizeof last, "%02x%02x%02x\n", key[count - 3], key[count - 2], key[count - 1]);
-    return fgets(typed, sizeof typed, person) && strcmp(typed, last) == 0;
+    bool is_same = fflush(person) == 0 && fgets(typed, sizeof typed, person) && strcmp(typed, last) == 0;
+    fclose(person);
+    return is_same ? REZDOLIN_YES : REZDOLIN_NO;
 }
 
 /* Authenticates, and leaves the bytes that come after that in `received`. */
-static bool authenticate(rezdolin_client_input *client) {
-    rezdolin_endpoint_answer answer;
-    size_t sent = 0;
-    unsigned calls = 0;
-    do {
-        do {
-            answer = rezdolin_client(client, received, len, sent, out, sizeof out, record, sizeof record, question, sizeof question);
-            if (answer.status != REZDOLIN_ANSWERED) {
-                fprintf(stderr, "no client: status %u, C%u\n", answer.status, answer.config);
-                return false;
-            }
-            sent += answer.written;
-        } while (send_all(out, answer.written) && sent < answer.sent);
-        if (answer.end == REZDOLIN_ASKS) /* once, of a client */
-            answers[client->answers.len++] = is_trusted(answer.question_len);
-    } while (++calls < REZDOLIN_CALLS_LIMIT && (answer.end == REZDOLIN_ASKS || (answer.end == REZDOLIN_OPEN && receive())));
-    memmove(received, received + answer.used, len -= answer.used);
-    if (answer.end != REZDOLIN_AUTHENTICATED)
-        fprintf(stderr, "end %u: F%u %u\n", answer.end, answer.fault, answer.detail);
-    session_len = answer.session_len;
-    return answer.end == REZDOLIN_AUTHENTICATED;
+static bool authenticate(const rezdolin_client_input *client) {
+    rezdolin_step_answer a = carry(&s, client, 0, ask_person);
+    if (a.status != REZDOLIN_ANSWERED)
+        fprintf(stderr, "no client: status %u, C%u\n", a.status, a.config);
+    else if (a.end != REZDOLIN_AUTHENTICATED)
+        fprintf(stderr, "end %u: F%u %u\n", a.end, a.fault, a.detail);
+    memcpy(received, s.came, len = s.came_len);
+    session_len = a.told_len;
+    return a.status == REZDOLIN_ANSWERED && a.end == REZDOLIN_AUTHENTICATED;
 }
 
 /* Sends a payload in a packet of its own. */
 static bool send_payload(const uint8_t *payload, size_t count) {
     size_t state_len;
-    uint8_t *state = rezdolin_field(record, session_len, REZDOLIN_OUTGOING, &state_len);
+    uint8_t *state = rezdolin_field(s.told, session_len, REZDOLIN_OUTGOING, &state_len);
     rezdolin_bytes_answer answer = rezdolin_seal(state, state_len, drawn + 80, 32, payload, count, out, sizeof out);
-    return answer.status == REZDOLIN_ANSWERED && send_all(out, answer.len);
+    return answer.status == REZDOLIN_ANSWERED && send_all(0, out, answer.len);
+}
+
+/* Reads what there is after what was received. */
+static bool receive_more(void) {
+    ssize_t n = len < sizeof received ? recv(0, received + len, sizeof received - len, 0) : 0;
+    len += n > 0 ? (size_t)n : 0;
+    return n > 0;
 }
 
 /* Receives the next payload into `out`. */
 static bool receive_payload(size_t *count) {
     size_t state_len;
-    uint8_t *state = rezdolin_field(record, session_len, REZDOLIN_INCOMING, &state_len);
+    uint8_t *state = rezdolin_field(s.told, session_len, REZDOLIN_INCOMING, &state_len);
     rezdolin_bytes_answer answer;
     do
         answer = rezdolin_open(state, state_len, received, len, out, sizeof out);
-    while (answer.status == REZDOLIN_MORE && receive());
+    while (answer.status == REZDOLIN_MORE && receive_more());
     if (answer.status != REZDOLIN_ANSWERED)
         return false;
     memmove(received, received + answer.used, len -= answer.used);
@@ -138,7 +123,7 @@ static bool run(const char *command) {
 
 int main(int argc, char **argv) {
     static uint8_t password[1024], key[1024];
-    if (argc != 5 || getentropy(drawn, sizeof drawn) != 0 || !(peer = fdopen(0, "w")))
+    if (argc != 5 || getentropy(drawn, sizeof drawn) != 0)
         return 2;
     rezdolin_bytes trusted = bytes_of(argv[3], key, sizeof key), ciphers = REZDOLIN_TEXT(REZDOLIN_CIPHERS),
                    macs = REZDOLIN_TEXT(REZDOLIN_MACS);
@@ -154,6 +139,10 @@ int main(int argc, char **argv) {
                  {drawn, 16}, {drawn + 16, 32}, {drawn + 48, 32}, REZDOLIN_STRICT_YES, REZDOLIN_READING_DEPLOYED},
         .server_host_key_algorithms = REZDOLIN_TEXT(REZDOLIN_HOST_KEY),
         .plan = &attempt, .plan_len = 1, .trusted_host_keys = &trusted, .trusted_host_keys_len = 1,
-        .asks = strcmp(argv[3], "-") == 0, .answers = {answers, 0}};
-    return authenticate(&client) && run(argv[4]) ? 0 : 1;
+        .asks = strcmp(argv[3], "-") == 0};
+    bool is_run = authenticate(&client) && run(argv[4]);
+    rezdolin_wipe(password, sizeof password);
+    rezdolin_wipe(drawn, sizeof drawn);
+    rezdolin_wipe(s.told, sizeof s.told);
+    return is_run ? 0 : 1;
 }

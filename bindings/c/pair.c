@@ -1,36 +1,14 @@
 /* A client and a server in memory: each row of what they are made of, and how both end. */
-#include "session.h"
-#include <stdio.h>
+#include "meet.h"
 
-static unsigned passed, failed;
-
-static void row(const char *name, bool holds) {
-    passed += holds;
-    failed += !holds;
-    printf("%s%s\n", holds ? "passed: " : "FAILED: ", name);
-}
-
-static bool equal(rezdolin_bytes a, rezdolin_bytes b) { return a.len == b.len && memcmp(a.at, b.at, a.len) == 0; }
-
-static bool is(rezdolin_bytes a, const char *text) {
-    return equal(a, (rezdolin_bytes){(const uint8_t *)text, strlen(text)});
-}
-
-/* How a side has ended, as its answer tells it. */
-static bool ended(const session *s, int server, uint32_t end, uint32_t fault, uint32_t detail) {
-    const rezdolin_endpoint_answer *answer = &s->ends[server];
-    return answer->status == REZDOLIN_ANSWERED && answer->end == end && answer->fault == fault
-           && answer->detail == detail && (answer->session_len > 0) == (end == REZDOLIN_AUTHENTICATED);
-}
-
-static session s, other;
+static meeting s, other;
 
 static void methods(void) {
     begin(&s, 1);
     meet(&s, 65536);
-    row("a key that is asked about", are_authenticated(&s) && is(field(&s, 1, REZDOLIN_BY_KEY_ALGORITHM), "ssh-ed25519"));
-    row("the key that came in", equal(field(&s, 1, REZDOLIN_BY_KEY), s.users[0].proof));
-    row("no password came in", is(field(&s, 1, REZDOLIN_BY_PASSWORD), "") == false && field(&s, 1, REZDOLIN_BY_PASSWORD).at[0] == 0);
+    row("a key that is asked about", are_authenticated(&s) && is(field(&s, SERVER, REZDOLIN_BY_KEY_ALGORITHM), "ssh-ed25519"));
+    row("the key that came in", equal(field(&s, SERVER, REZDOLIN_BY_KEY), s.users[0].proof));
+    row("no password came in", is(field(&s, SERVER, REZDOLIN_BY_PASSWORD), "") == false && field(&s, SERVER, REZDOLIN_BY_PASSWORD).at[0] == 0);
     begin(&s, 2);
     s.plan[0].ask = 0;
     meet(&s, 65536);
@@ -39,56 +17,55 @@ static void methods(void) {
     s.plan[0] = s.plan[1];
     s.client.plan_len = 1;
     meet(&s, 65536);
-    row("a password", are_authenticated(&s) && field(&s, 1, REZDOLIN_BY_PASSWORD).at[0] == 1);
-    row("a client doesn't say how", field(&s, 0, REZDOLIN_BY_PASSWORD).len == 0 && field(&s, 0, REZDOLIN_BY_KEY).len == 0);
+    row("a password", are_authenticated(&s) && field(&s, SERVER, REZDOLIN_BY_PASSWORD).at[0] == 1);
+    row("a client doesn't say how", field(&s, CLIENT, REZDOLIN_BY_PASSWORD).len == 0 && field(&s, CLIENT, REZDOLIN_BY_KEY).len == 0);
     begin(&s, 4);
     s.plan[0].method = s.users[0].method = REZDOLIN_METHOD_NONE;
     s.users[0].proof = TEXT("");
     meet(&s, 65536);
-    row("no proof", are_authenticated(&s) && field(&s, 1, REZDOLIN_BY_PASSWORD).at[0] == 0);
+    row("no proof", are_authenticated(&s) && field(&s, SERVER, REZDOLIN_BY_PASSWORD).at[0] == 0);
     begin(&s, 5);
     s.server.required = TEXT("publickey,password");
     meet(&s, 65536);
-    row("both required", are_authenticated(&s) && field(&s, 1, REZDOLIN_BY_PASSWORD).at[0] == 1 && field(&s, 1, REZDOLIN_BY_KEY).len == 51);
+    row("both required", are_authenticated(&s) && field(&s, SERVER, REZDOLIN_BY_PASSWORD).at[0] == 1 && field(&s, SERVER, REZDOLIN_BY_KEY).len == 51);
     begin(&s, 6);
     s.server.required = TEXT("publickey,password");
     s.client.plan_len = 1;
     meet(&s, 65536);
-    row("both required, one tried", ended(&s, 0, REZDOLIN_FAILED, 14, 0) && ended(&s, 1, REZDOLIN_CLOSED, 0, 14));
+    row("both required, one tried", ended(&s, CLIENT, REZDOLIN_FAILED, 14, 0) && ended(&s, SERVER, REZDOLIN_CLOSED, 0, 14));
 }
 
 static void refusals(void) {
     begin(&s, 7);
     s.users[0].user = s.users[1].user = TEXT("bo");
     meet(&s, 65536);
-    row("another user", ended(&s, 0, REZDOLIN_FAILED, 14, 0) && ended(&s, 1, REZDOLIN_CLOSED, 0, 14));
+    row("another user", ended(&s, CLIENT, REZDOLIN_FAILED, 14, 0) && ended(&s, SERVER, REZDOLIN_CLOSED, 0, 14));
     begin(&s, 8);
     s.host_key[30] ^= 1;
     meet(&s, 65536);
-    row("another host key", ended(&s, 0, REZDOLIN_FAILED, 10, 0) && ended(&s, 1, REZDOLIN_CLOSED, 0, 9));
+    row("another host key", ended(&s, CLIENT, REZDOLIN_FAILED, 10, 0) && ended(&s, SERVER, REZDOLIN_CLOSED, 0, 9));
     begin(&s, 9);
     s.client.trusted_host_keys_len = 0;
     meet(&s, 65536);
-    row("no host key is trusted", ended(&s, 0, REZDOLIN_FAILED, 10, 0));
+    row("no host key is trusted", ended(&s, CLIENT, REZDOLIN_FAILED, 10, 0));
     begin(&s, 10);
     s.client.side.encryption_server_to_client = TEXT("aes256-gcm@openssh.com");
     s.server.side.encryption_server_to_client = TEXT("chacha20-poly1305@openssh.com");
     meet(&s, 65536);
-    row("no cipher in common", ended(&s, 0, REZDOLIN_FAILED, 8, 4) && ended(&s, 1, REZDOLIN_FAILED, 8, 4));
+    row("no cipher in common", ended(&s, CLIENT, REZDOLIN_FAILED, 8, 4) && ended(&s, SERVER, REZDOLIN_FAILED, 8, 4));
     begin(&s, 11);
     s.plan[0].service = s.plan[1].service = TEXT("ssh-other");
     meet(&s, 65536);
-    row("a service that the server hasn't", ended(&s, 1, REZDOLIN_FAILED, 12, 0));
+    row("a service that the server hasn't", ended(&s, SERVER, REZDOLIN_FAILED, 12, 0));
     begin(&s, 12);
     s.server.tries = 1;
     s.users[0].user = TEXT("bo");
     meet(&s, 65536);
-    row("too many requests", ended(&s, 1, REZDOLIN_FAILED, 13, 0));
+    row("too many requests", ended(&s, SERVER, REZDOLIN_FAILED, 13, 0));
     begin(&s, 13);
-    memcpy(s.to_client.at, "SSH-1.0-old\r\n", 13);
-    s.to_client.len = 13;
-    s.ends[0] = rezdolin_client(&s.client, s.to_client.at, 13, 0, s.to_server.at, 65536, s.records[0], 16, s.questions[0], 0);
-    row("a version line that is refused", ended(&s, 0, REZDOLIN_FAILED, 1, 0));
+    take(&s, CLIENT, call_begin(&s, CLIENT));
+    take(&s, CLIENT, call_step(&s, CLIENT, (const uint8_t *)"SSH-1.0-old\r\n", 13));
+    row("a version line that is refused", ended(&s, CLIENT, REZDOLIN_FAILED, 1, 0));
 }
 
 /* A peer's version line, read by this grammar: whether a client and a server take it; a side that doesn't ends as F1. */
@@ -98,11 +75,9 @@ static bool reads(uint32_t reading, const char *line, bool client_takes, bool se
     begin(&s, 20);
     s.client.side.reading = s.server.side.reading = reading;
     for (int server = 0; server < 2; server++) {
-        rezdolin_endpoint_answer a =
-            server ? rezdolin_server(&s.server, (const uint8_t *)line, len, 0, s.to_client.at, 65536, s.records[1], 16, s.questions[1], 0)
-                   : rezdolin_client(&s.client, (const uint8_t *)line, len, 0, s.to_server.at, 65536, s.records[0], 16, s.questions[0], 0);
-        s.ends[server] = a;
-        holds = holds && (takes[server] ? ended(&s, server, REZDOLIN_OPEN, 0, 0) && a.used == len : ended(&s, server, REZDOLIN_FAILED, 1, 0));
+        take(&s, server, call_begin(&s, server));
+        take(&s, server, call_step(&s, server, (const uint8_t *)line, len));
+        holds = holds && (takes[server] ? ended(&s, server, REZDOLIN_OPEN, 0, 0) && s.sides[server].last.used == len : ended(&s, server, REZDOLIN_FAILED, 1, 0));
     }
     return holds;
 }
@@ -126,10 +101,7 @@ static void readings(void) {
 }
 
 /* The parts of one side are changed: how its call answers. */
-static bool refuses(int server, uint32_t status, uint32_t config) {
-    step(&s, server, 65536);
-    return s.ends[server].status == status && s.ends[server].config == config && s.ends[server].written == 0;
-}
+static bool refuses(int server, uint32_t status, uint32_t config) { return is_refusal(call_begin(&s, server), status, config); }
 
 static void configs(void) {
     static uint8_t big[10000];
@@ -184,7 +156,7 @@ static void configs(void) {
     for (size_t len = 0; len <= 64; len += len % 32 == 31 || len % 32 == 0 ? 1 : 30)
         if (len != 32) {
             begin(&s, 14);
-            s.plan[0].secret = s.host.private_key = (rezdolin_bytes){big, len};
+            s.plan[0].secret = s.host.key = (rezdolin_bytes){big, len};
             row("C14 of an attempt", refuses(0, REZDOLIN_CONFIG, 14));
             row("C14 of a host key", refuses(1, REZDOLIN_CONFIG, 14));
         }
@@ -199,7 +171,7 @@ static void configs(void) {
     s.plan[1].user = TEXT("\xff");
     row("a user that is no UTF-8", refuses(0, REZDOLIN_UNREADABLE, 0));
     begin(&s, 14);
-    s.plan[1].method = 3;
+    s.plan[1].method = 4;
     row("a method of no such number", refuses(0, REZDOLIN_UNREADABLE, 0));
     begin(&s, 14);
     s.server.services = TEXT("\xc3");
@@ -212,9 +184,9 @@ static bool is_no_list(const rezdolin_user *users, size_t count) {
     s.plan[0].method = REZDOLIN_METHOD_NONE;
     s.server.users = users;
     s.server.users_len = count;
-    bool holds = refuses(1, REZDOLIN_UNREADABLE, 0);
+    bool holds = refuses(SERVER, REZDOLIN_UNREADABLE, 0);
     meet(&s, 65536);
-    return holds && s.ends[0].end != REZDOLIN_AUTHENTICATED && s.ends[1].end != REZDOLIN_AUTHENTICATED;
+    return holds && s.sides[CLIENT].last.end != REZDOLIN_AUTHENTICATED && s.sides[SERVER].last.end != REZDOLIN_AUTHENTICATED;
 }
 
 static void mistakes(void) {
@@ -237,7 +209,7 @@ static void mistakes(void) {
     begin(&s, 18);
     s.server.users_len = 0;
     meet(&s, 65536);
-    row("no entry", ended(&s, 0, REZDOLIN_FAILED, 14, 0));
+    row("no entry", ended(&s, CLIENT, REZDOLIN_FAILED, 14, 0));
     begin(&s, 19);
     s.plan[1].method = 0;
     row("an attempt's method that was forgotten", refuses(0, REZDOLIN_UNREADABLE, 0));
@@ -262,7 +234,7 @@ static void mistakes(void) {
     begin(&s, 19);
     s.client.side.strict = REZDOLIN_STRICT_NO;
     meet(&s, 65536);
-    row("a side that isn't strict", are_authenticated(&s) && field(&s, 0, REZDOLIN_STRICT).at[0] == 0);
+    row("a side that isn't strict", are_authenticated(&s) && field(&s, CLIENT, REZDOLIN_STRICT).at[0] == 0);
 }
 
 static void records(void) {
@@ -271,64 +243,310 @@ static void records(void) {
     bool same = true;
     for (unsigned i = REZDOLIN_SESSION_IDENTIFIER; i <= REZDOLIN_STRICT; i++)
         if (i != REZDOLIN_OWN_VERSION && i != REZDOLIN_PEER_VERSION)
-            same = same && equal(field(&s, 0, i), field(&s, 1, i));
+            same = same && equal(field(&s, CLIENT, i), field(&s, SERVER, i));
     row("both records agree", same);
-    row("states are crosswise", equal(field(&s, 0, REZDOLIN_INCOMING), field(&s, 1, REZDOLIN_OUTGOING))
-                                    && equal(field(&s, 0, REZDOLIN_OUTGOING), field(&s, 1, REZDOLIN_INCOMING)));
-    row("versions are crosswise", equal(field(&s, 0, REZDOLIN_OWN_VERSION), field(&s, 1, REZDOLIN_PEER_VERSION))
-                                      && is(field(&s, 0, REZDOLIN_PEER_VERSION), "SSH-2.0-rezdolin"));
-    row("user and service", is(field(&s, 0, REZDOLIN_USER), "al") && is(field(&s, 1, REZDOLIN_SERVICE), "ssh-connection"));
-    row("the host key", equal(field(&s, 0, REZDOLIN_SERVER_KEY), s.trusted));
-    row("algorithms", is(field(&s, 0, REZDOLIN_AGREED_KEX), "curve25519-sha256")
-                          && is(field(&s, 0, REZDOLIN_AGREED_HOST_KEY), "ssh-ed25519")
-                          && is(field(&s, 0, REZDOLIN_AGREED_ENCRYPTION_CLIENT_TO_SERVER), "chacha20-poly1305@openssh.com")
-                          && is(field(&s, 0, REZDOLIN_AGREED_COMPRESSION_SERVER_TO_CLIENT), "none"));
-    row("strict", field(&s, 0, REZDOLIN_STRICT).len == 1 && field(&s, 0, REZDOLIN_STRICT).at[0] == 1);
-    row("there are 20 fields", field(&s, 0, 20).at == NULL);
-    for (size_t room = 0; room < 10; room++) {
-        uint8_t small[10] = {7, 7, 7, 7, 7, 7, 7, 7, 7, 7}, out[4] = {8, 8, 8, 8};
-        rezdolin_endpoint_answer a = rezdolin_client(&s.client, s.to_client.at, s.to_client.len, 0, out, 4, small, room, s.questions[0], 0);
-        bool holds = a.status == REZDOLIN_ROOM && a.session_len == s.ends[0].session_len && a.question_len == 0 && a.end == 0
-                     && a.used == 0 && a.sent == 0 && a.written == 0 && out[0] == 8;
-        for (size_t i = 0; i < 10; i++)
-            holds = holds && small[i] == (i < 4 && i < room ? 0 : 7);
-        row("a record that has no room", holds);
+    row("states are crosswise", equal(field(&s, CLIENT, REZDOLIN_INCOMING), field(&s, SERVER, REZDOLIN_OUTGOING))
+                                    && equal(field(&s, CLIENT, REZDOLIN_OUTGOING), field(&s, SERVER, REZDOLIN_INCOMING)));
+    row("versions are crosswise", equal(field(&s, CLIENT, REZDOLIN_OWN_VERSION), field(&s, SERVER, REZDOLIN_PEER_VERSION))
+                                      && is(field(&s, CLIENT, REZDOLIN_PEER_VERSION), "SSH-2.0-rezdolin"));
+    row("user and service", is(field(&s, CLIENT, REZDOLIN_USER), "al") && is(field(&s, SERVER, REZDOLIN_SERVICE), "ssh-connection"));
+    row("the host key", equal(field(&s, CLIENT, REZDOLIN_SERVER_KEY), s.trusted));
+    row("algorithms", is(field(&s, CLIENT, REZDOLIN_AGREED_KEX), "curve25519-sha256")
+                          && is(field(&s, CLIENT, REZDOLIN_AGREED_HOST_KEY), "ssh-ed25519")
+                          && is(field(&s, CLIENT, REZDOLIN_AGREED_ENCRYPTION_CLIENT_TO_SERVER), "chacha20-poly1305@openssh.com")
+                          && is(field(&s, CLIENT, REZDOLIN_AGREED_COMPRESSION_SERVER_TO_CLIENT), "none"));
+    row("strict", field(&s, CLIENT, REZDOLIN_STRICT).len == 1 && field(&s, CLIENT, REZDOLIN_STRICT).at[0] == 1);
+    row("there are 20 fields", field(&s, CLIENT, 20).at == NULL);
+}
+
+/* Rooms for a call that are one byte too small, in turn: it says what there has to be, and has written nothing but `told`'s first
+ * bytes. */
+static void rooms(void) {
+    static uint8_t record[REZDOLIN_RECORD_ROOM], next[REZDOLIN_RECORD_ROOM], out[65536], told[65536];
+    begin(&s, 15);
+    s.client.asks = s.server.asks = 1;
+    rezdolin_step_answer a = rezdolin_client_begin(&s.client, next, sizeof next, out, sizeof out), b;
+    size_t sent = a.sent_len, len = a.record_len;
+    row("a first call", a.status == REZDOLIN_ANSWERED && a.end == REZDOLIN_OPEN && sent > 0 && len > 0 && a.used == 0 && a.told_len == 0);
+    for (int i = 0; i < 2; i++) {
+        next[0] = out[0] = 7;
+        a = rezdolin_client_begin(&s.client, next, i ? len - 1 : len, out, i ? sent : sent - 1);
+        row("a first call that has no room", is_refusal(a, REZDOLIN_ROOM, 0) && a.sent_len == sent && a.record_len == len && a.told_len == 0
+                                                 && next[0] == 7 && out[0] == 7);
     }
-    size_t len = s.ends[0].session_len;
-    memset(s.records[0], 7, len);
-    step(&s, 0, 65536);
-    row("a record that has room again", s.ends[0].session_len == len && is(field(&s, 0, REZDOLIN_USER), "al"));
-    s.records[0][0] = s.records[0][3] = 9;
-    s.ends[0] = rezdolin_client(&s.client, s.to_client.at, 100, 0, s.to_server.at, 65536, s.records[0], 65536, s.questions[0], 65536);
-    row("a record that is left of another call", s.ends[0].end == REZDOLIN_OPEN && s.records[0][0] == 0 && s.records[0][3] == 0);
+    bool holds = true;
+    unsigned calls = 0, tells = 0;
+    for (bool goes = true; goes;) {
+        goes = false;
+        for (int server = 0; server < 2; server++)
+            for (;;) {
+                side *x = &s.sides[server], *y = &s.sides[!server];
+                bool asks = x->last.end == REZDOLIN_ASKS;
+                if (x->calls == 0) {
+                    goes = go(&s, server, 65536);
+                    continue;
+                }
+                if (!asks && (x->last.end != REZDOLIN_OPEN || y->sent_len == x->used))
+                    break;
+                memcpy(record, x->records[x->now], x->record_len);
+                /* what the call comes to, in rooms of all sizes that are enough and not */
+                size_t have[3] = {0, 0, 0};
+                for (int n = 0; n < 5; n++) {
+                    size_t rooms[3] = {have[0] - (n == 2), have[1] - (n == 3), have[2] - (n == 4)};
+                    if ((n == 2 && !have[0]) || (n == 3 && !have[1]) || (n == 4 && !have[2]))
+                        continue;
+                    memset(next, 7, 8), memset(out, 7, 8), memset(told, 7, 8);
+                    const uint8_t *piece = y->sent + x->used;
+                    size_t piece_len = y->sent_len - x->used;
+                    if (asks)
+                        b = server ? rezdolin_server_answer(&s.server, record, x->record_len, REZDOLIN_YES, piece, 0, next, rooms[0], out, rooms[1], told, rooms[2])
+                                   : rezdolin_client_answer(&s.client, record, x->record_len, REZDOLIN_YES, piece, 0, next, rooms[0], out, rooms[1], told, rooms[2]);
+                    else
+                        b = server ? rezdolin_server_step(&s.server, record, x->record_len, piece, piece_len, next, rooms[0], out, rooms[1], told, rooms[2])
+                                   : rezdolin_client_step(&s.client, record, x->record_len, piece, piece_len, next, rooms[0], out, rooms[1], told, rooms[2]);
+                    calls++;
+                    if (n == 1) {
+                        holds = holds && b.status == REZDOLIN_ANSWERED && b.record_len == have[0] && b.sent_len == have[1] && b.told_len == have[2];
+                        tells += have[2] > 0;
+                        continue;
+                    }
+                    holds = holds && is_refusal(b, REZDOLIN_ROOM, 0) && next[0] == 7 && out[0] == 7;
+                    for (size_t i = 0; i < 5; i++)
+                        holds = holds && told[i] == (i < 4 && i < rooms[2] ? 0 : 7);
+                    if (n == 0)
+                        have[0] = b.record_len, have[1] = b.sent_len, have[2] = b.told_len;
+                    else
+                        holds = holds && b.record_len == have[0] && b.sent_len == have[1] && b.told_len == have[2];
+                }
+                goes = go(&s, server, 65536);
+            }
+    }
+    row("rooms of one byte less", holds && calls > 20 && tells == 5 && are_authenticated(&s));
 }
 
 static void cuts(void) {
+    static const size_t sizes[5] = {1, 2, 7, 100, 1000};
     begin(&s, 16);
     meet(&s, 65536);
-    begin(&other, 16);
-    meet(&other, 7);
-    row("seven bytes at a time", are_authenticated(&other) && s.to_client.len == other.to_client.len
-                                     && memcmp(s.to_client.at, other.to_client.at, s.to_client.len) == 0
-                                     && memcmp(s.to_server.at, other.to_server.at, s.to_server.len) == 0);
-    bool same = true;
-    for (size_t n = 0; n < s.to_client.len; n += 5) {
-        rezdolin_endpoint_answer a = rezdolin_client(&s.client, s.to_client.at, n, 0, other.to_server.at, 65536, other.records[0], 65536, other.questions[0], 0);
-        same = same && a.status == 0 && a.end == REZDOLIN_OPEN && a.used == n && a.written == a.sent
-               && memcmp(other.to_server.at, s.to_server.at, a.sent) == 0;
+    for (int asks = 0; asks < 2; asks++)
+        for (int i = 0; i < 5; i++) {
+            begin(&other, 16);
+            other.client.asks = other.server.asks = asks;
+            meet(&other, sizes[i]);
+            row("pieces of any size", are_authenticated(&other) && is_same_talk(&s, &other)
+                                          && other.sides[SERVER].questions == 2 * (unsigned)asks && other.sides[CLIENT].questions == (unsigned)asks);
+        }
+    begin(&s, 16);
+    for (int i = 0; !are_authenticated(&s) && i < 100; i++) {
+        go(&s, SERVER, 65536);
+        if (s.sides[SERVER].last.end == REZDOLIN_AUTHENTICATED)
+            s.sides[SERVER].sent[s.sides[SERVER].sent_len++] = 9;
+        go(&s, CLIENT, 65536);
     }
-    row("what was sent is a beginning of what is sent", same);
-    s.to_client.at[s.to_client.len] = 9;
-    s.to_client.len++;
-    step(&s, 0, 65536);
-    row("a byte that comes after", s.ends[0].end == REZDOLIN_AUTHENTICATED && s.ends[0].used == s.to_client.len - 1);
-    rezdolin_endpoint_answer a = rezdolin_client(&s.client, s.to_client.at, s.to_client.len, 1000000, other.to_server.at, 10, other.records[0], 0, other.questions[0], 0);
-    row("more was skipped than is sent", a.status == REZDOLIN_UNREADABLE && a.written == 0);
-    size_t sent = s.ends[0].sent;
-    a = rezdolin_client(&s.client, s.to_client.at, s.to_client.len, sent, other.to_server.at, 10, other.records[0], 65536, other.questions[0], 0);
-    row("all was skipped that is sent", a.status == REZDOLIN_ANSWERED && a.written == 0 && a.sent == sent);
-    a = rezdolin_client(&s.client, s.to_client.at, s.to_client.len, sent + 1, other.to_server.at, 10, other.records[0], 65536, other.questions[0], 0);
-    row("one byte more", a.status == REZDOLIN_UNREADABLE && a.sent == 0);
+    row("a byte that comes after", are_authenticated(&s) && s.sides[CLIENT].used == s.sides[SERVER].sent_len - 1);
+    begin(&s, 16);
+    go(&s, CLIENT, 1);
+    size_t len = s.sides[CLIENT].record_len;
+    take(&s, CLIENT, call_step(&s, CLIENT, s.sides[SERVER].sent, 0));
+    row("a step of no bytes", ended(&s, CLIENT, REZDOLIN_OPEN, 0, 0) && s.sides[CLIENT].last.sent_len == 0 && s.sides[CLIENT].record_len == len);
+}
+
+/* What a peer has sent, with some of it changed: in one piece and in many it comes to the same. */
+static void spoiled(void) {
+    static uint8_t stream[4096];
+    static side whole;
+    unsigned fails = 0, same = 0;
+    for (unsigned n = 0; n < 200; n++) {
+        int server = n % 2;
+        begin(&other, 70 + n % 3);
+        other.client.asks = other.server.asks = n % 4 / 2;
+        meet(&other, 65536);
+        size_t len = other.sides[!server].sent_len, at;
+        memcpy(stream, other.sides[!server].sent, len);
+        srand(n);
+        for (int k = rand() % 3; k >= 0; k--) {
+            at = (size_t)rand() % len;
+            switch (rand() % 4) {
+            case 0: stream[at] ^= (uint8_t)(1 << rand() % 8); break;
+            case 1: stream[at] = (uint8_t)rand(); break;
+            case 2: memmove(stream + at, stream + at + 1, --len - at); break;
+            default: memmove(stream + at + 1, stream + at, len++ - at);
+            }
+        }
+        for (int pieces = 0; pieces < 2; pieces++) {
+            begin(&s, 70 + n % 3);
+            s.client.asks = s.server.asks = n % 4 / 2;
+            memcpy(s.sides[!server].sent, stream, s.sides[!server].sent_len = len);
+            while (go(&s, server, pieces ? 1 + (size_t)rand() % 50 : 65536)) {
+            }
+            if (!pieces)
+                whole = s.sides[server];
+        }
+        const side *x = &whole, *y = &s.sides[server];
+        fails += y->last.end == REZDOLIN_FAILED;
+        same += x->last.status == REZDOLIN_ANSWERED && y->last.status == REZDOLIN_ANSWERED && x->last.end == y->last.end && x->last.fault == y->last.fault
+                && x->last.detail == y->last.detail && x->used == y->used && x->questions == y->questions && x->sent_len == y->sent_len
+                && memcmp(x->sent, y->sent, x->sent_len) == 0 && x->last.told_len == y->last.told_len && memcmp(x->told, y->told, x->last.told_len) == 0
+                && x->record_len == y->record_len && memcmp(x->records[x->now], y->records[y->now], x->record_len) == 0;
+    }
+    row("changed streams, in one piece and in many", same == 200 && fails > 30);
+}
+
+/* Signatures that were made elsewhere: by a pair of sides that has the private keys, and else the same parts. */
+static uint8_t by_user[83], by_host[83];
+static bool keeps, spoils;
+static size_t extra;
+
+/* Opens what the client of a pair sent last, and keeps the signature in it; and finds that of the host key. */
+static bool are_kept(const meeting *m) {
+    static const char front[] = "\0\0\0\x53\0\0\0\x0bssh-ed25519\0\0\0\x40";
+    static uint8_t state[600], payload[REZDOLIN_PACKET_ROOM];
+    const side *client = &m->sides[CLIENT], *server = &m->sides[SERVER];
+    rezdolin_bytes in = field(m, SERVER, REZDOLIN_INCOMING);
+    bool has_user = false, has_host = false;
+    for (size_t at = 0; at < client->sent_len && !has_user; at++) {
+        memcpy(state, in.at, in.len);
+        state[3]--;
+        rezdolin_bytes_answer a = rezdolin_open(state, in.len, client->sent + at, client->sent_len - at, payload, sizeof payload);
+        if (a.status == REZDOLIN_ANSWERED && a.used == client->sent_len - at && payload[0] == 50) {
+            memcpy(by_user, payload + a.len - 83, 83);
+            has_user = memcmp(payload + a.len - 87, front, 4) == 0;
+        }
+    }
+    for (size_t at = 0; at + 87 < server->sent_len && !has_host; at++)
+        if (memcmp(server->sent + at, front, sizeof front - 1) == 0)
+            memcpy(by_host, server->sent + at + 4, 83), has_host = true;
+    return has_user && has_host;
+}
+
+static uint8_t asked[2][1000];
+static size_t asked_len[2];
+
+static reply sign(meeting *m, int server, uint8_t *question, size_t len) {
+    static uint8_t given[9000];
+    if (!is_byte(field_in(question, len, REZDOLIN_QUESTION_KIND), REZDOLIN_ASKS_SIGNATURE))
+        return say_yes(m, server, question, len);
+    memcpy(asked[server], question, asked_len[server] = len);
+    memcpy(given, server ? by_host : by_user, 83);
+    given[82] ^= spoils;
+    return keeps ? (reply){REZDOLIN_NO_SIGNATURE, TEXT("")} : (reply){REZDOLIN_SIGNATURE, {given, 83 + extra}};
+}
+
+/* Both sides ask, and the private keys of these two are elsewhere. */
+static void begin_elsewhere(bool user, bool host, uint32_t ask) {
+    begin(&s, 30);
+    keeps = spoils = false, extra = 0;
+    s.decide = sign;
+    s.client.asks = s.server.asks = 1;
+    s.plan[0].ask = ask;
+    if (user)
+        s.plan[0].method = REZDOLIN_METHOD_SIGNED, s.plan[0].secret = s.users[0].proof;
+    if (host)
+        s.host.place = REZDOLIN_KEY_ELSEWHERE, s.host.key = s.trusted;
+}
+
+static void signatures(void) {
+    for (uint32_t ask = 0; ask < 2; ask++) {
+        begin(&other, 30);
+        other.client.asks = other.server.asks = 1;
+        other.plan[0].ask = ask;
+        meet(&other, 65536);
+        row("signatures that were made here", are_authenticated(&other) && are_kept(&other));
+        for (int which = 1; which < 4; which++)
+            for (size_t size = 1; size < 65536; size += 32767) {
+                begin_elsewhere(which & 1, which & 2, ask);
+                meet(&s, size);
+                row("elsewhere: the same is sent", are_authenticated(&s) && is_same_talk(&s, &other) && s.sides[CLIENT].questions == 1U + (which & 1)
+                                                       && s.sides[SERVER].questions == 1U + ask + (which >> 1));
+            }
+    }
+    rezdolin_bytes input = field_in(asked[CLIENT], asked_len[CLIENT], REZDOLIN_QUESTION_INPUT), hash = field_in(asked[SERVER], asked_len[SERVER], REZDOLIN_QUESTION_INPUT);
+    row("a client's question for a signature", is(field_in(asked[CLIENT], asked_len[CLIENT], REZDOLIN_QUESTION_ALGORITHM), "ssh-ed25519")
+                                                   && equal(field_in(asked[CLIENT], asked_len[CLIENT], REZDOLIN_QUESTION_KEY), s.users[0].proof)
+                                                   && is(field_in(asked[CLIENT], asked_len[CLIENT], REZDOLIN_QUESTION_USER), "")
+                                                   && input.len > 37 && memcmp(input.at + 4, hash.at, 32) == 0 && input.at[36] == 50);
+    row("a server's question for a signature", is(field_in(asked[SERVER], asked_len[SERVER], REZDOLIN_QUESTION_ALGORITHM), "ssh-ed25519")
+                                                   && equal(field_in(asked[SERVER], asked_len[SERVER], REZDOLIN_QUESTION_KEY), s.trusted)
+                                                   && equal(hash, field(&s, CLIENT, REZDOLIN_SESSION_IDENTIFIER)));
+    begin_elsewhere(true, false, 1);
+    keeps = true;
+    meet(&s, 65536);
+    row("no signature of a client: none, and then its password", ended(&s, CLIENT, REZDOLIN_AUTHENTICATED, 0, 0) && s.sides[SERVER].questions == 2);
+    begin_elsewhere(true, false, 1);
+    keeps = true;
+    s.server.asks = 0;
+    s.client.plan_len = 1;
+    meet(&s, 65536);
+    row("no signature, and nothing else", ended(&s, CLIENT, REZDOLIN_FAILED, 14, 0) && ended(&s, SERVER, REZDOLIN_CLOSED, 0, 14));
+    begin_elsewhere(true, false, 0);
+    spoils = true;
+    meet(&s, 65536);
+    row("a wrong signature of a client", are_authenticated(&s) && is_byte(field(&s, SERVER, REZDOLIN_BY_PASSWORD), 1));
+    begin_elsewhere(true, false, 0);
+    extra = 8192 - 83;
+    meet(&s, 65536);
+    row("a signature with bytes after it", are_authenticated(&s) && is_byte(field(&s, SERVER, REZDOLIN_BY_PASSWORD), 1));
+    begin_elsewhere(true, false, 0);
+    extra = 8193 - 83;
+    s.server.asks = 0;
+    meet(&s, 65536);
+    row("one of more than 8192 bytes is none", are_authenticated(&s) && is_byte(field(&s, SERVER, REZDOLIN_BY_PASSWORD), 1));
+    begin_elsewhere(false, true, 0);
+    keeps = true;
+    meet(&s, 65536);
+    row("no signature of a server", ended(&s, SERVER, REZDOLIN_FAILED, 9, 0) && ended(&s, CLIENT, REZDOLIN_CLOSED, 0, 3));
+    begin_elsewhere(false, true, 0);
+    spoils = true;
+    meet(&s, 65536);
+    row("a wrong signature of a server", ended(&s, CLIENT, REZDOLIN_FAILED, 11, 0) && ended(&s, SERVER, REZDOLIN_CLOSED, 0, 3));
+}
+
+/* Keys that aren't where they are said to be. */
+static void places(void) {
+    begin_elsewhere(true, true, 0);
+    s.client.asks = s.server.asks = 0;
+    row("elsewhere, and nobody is asked", refuses(CLIENT, REZDOLIN_UNREADABLE, 0) && refuses(SERVER, REZDOLIN_UNREADABLE, 0));
+    begin_elsewhere(true, true, 0);
+    s.plan[0].secret = (rezdolin_bytes){s.user_secret, 32};
+    s.host.key = (rezdolin_bytes){s.host_secret, 32};
+    row("a private key that is said to be elsewhere", refuses(CLIENT, REZDOLIN_CONFIG, 14) && refuses(SERVER, REZDOLIN_CONFIG, 14));
+    begin_elsewhere(false, false, 0);
+    s.plan[0].secret = s.users[0].proof;
+    s.host.key = s.trusted;
+    row("a public key that is said to be private", refuses(CLIENT, REZDOLIN_CONFIG, 14) && refuses(SERVER, REZDOLIN_CONFIG, 14));
+    for (uint32_t place = 0; place < 4; place += place ? 2 : 3) {
+        begin(&s, 31);
+        s.host.place = place;
+        row("a place that is none", refuses(SERVER, REZDOLIN_UNREADABLE, 0));
+    }
+    begin(&s, 31);
+    s.users[0].method = REZDOLIN_METHOD_SIGNED;
+    row("an entry that signs", refuses(SERVER, REZDOLIN_UNREADABLE, 0));
+}
+
+static void disconnects(void) {
+    static uint8_t opened[REZDOLIN_PACKET_ROOM];
+    rezdolin_bytes word = TEXT("going");
+    for (int server = 0; server < 2; server++)
+        for (int calls = 1; calls < 5; calls++) {
+            begin(&s, 40);
+            s.client.asks = s.server.asks = 1;
+            while (s.sides[server].calls < (unsigned)calls) {
+                go(&s, !server, 65536);
+                go(&s, server, 65536);
+            }
+            take(&s, server, call_disconnect(&s, server, 11, word));
+            bool said = ended(&s, server, REZDOLIN_DISCONNECTED, 0, 11) && s.sides[server].last.sent_len > 0 && s.sides[server].record_len == 0;
+            meet(&s, 65536);
+            row("a side that disconnects", said && ended(&s, !server, REZDOLIN_CLOSED, 0, 11));
+            row("and then has no record", is_refusal(call_disconnect(&s, server, 11, word), REZDOLIN_RECORD, 0)
+                                              && is_refusal(call_step(&s, server, opened, 0), REZDOLIN_RECORD, 0));
+        }
+    begin(&s, 40);
+    go(&s, CLIENT, 1);
+    row("a description that is no UTF-8", is_refusal(call_disconnect(&s, CLIENT, 11, TEXT("\xff")), REZDOLIN_UNREADABLE, 0));
+    rezdolin_step_answer a = rezdolin_client_disconnect(&s.client, s.sides[CLIENT].records[s.sides[CLIENT].now], s.sides[CLIENT].record_len, 11, word.at, word.len, opened, 10);
+    row("no room for a DISCONNECT", is_refusal(a, REZDOLIN_ROOM, 0) && a.sent_len > 10 && a.record_len == 0);
 }
 
 static void packets(const char *cipher) {
@@ -349,7 +567,7 @@ static void packets(const char *cipher) {
     row("packets both ways", same);
     row("an empty payload", pass(&s, 0, payload, 0, opened, &len) == REZDOLIN_PAYLOAD);
     row("a payload that is too long", pass(&s, 0, payload, 32769, opened, &len) == REZDOLIN_PAYLOAD);
-    rezdolin_bytes out = field(&s, 0, REZDOLIN_OUTGOING), in = field(&s, 1, REZDOLIN_INCOMING);
+    rezdolin_bytes out = field(&s, CLIENT, REZDOLIN_OUTGOING), in = field(&s, SERVER, REZDOLIN_INCOMING);
     uint8_t *state = (uint8_t *)out.at, *at = (uint8_t *)in.at, before[600];
     memcpy(before, state, out.len);
     rezdolin_bytes_answer a = rezdolin_seal(state, out.len, s.drawn[0] + 80, 32, payload, 40, packet, 10);
@@ -382,9 +600,13 @@ int main(void) {
     configs();
     mistakes();
     records();
+    rooms();
     cuts();
+    spoiled();
+    signatures();
+    places();
+    disconnects();
     packets("chacha20-poly1305@openssh.com");
     packets("aes256-gcm@openssh.com");
-    printf("%u passed, %u failed\n", passed, failed);
-    return failed != 0;
+    return counted();
 }

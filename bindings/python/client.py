@@ -1,20 +1,37 @@
-"""A client over TCP: it authenticates by a password, and tells what was agreed.
+"""A client: it authenticates by a password, or by a key that an agent has, and tells what was agreed.
 
-    python3 client.py HOST PORT USER PASSWORD KEY-FILE
+    python3 client.py HOST PORT USER SECRET KEY-FILE
 
-KEY-FILE has the host key's bytes, which `cut -d' ' -f2 host.pub | base64 -d` gives; where it is `-`, a person is asked.
+SECRET is the password; or @ and the path of a public key, as ssh-keygen writes it, by which the agent of SSH_AUTH_SOCK signs. KEY-FILE
+has the host key's bytes, which `cut -d' ' -f2 host.pub | base64 -d` gives; where it is `-`, a person is asked. With `-` for HOST it
+talks to its standard input and output.
 """
 import base64
 import hashlib
+import os
 import socket
 import sys
 
-from rezdolin import Client, Password
+from agent import Agent
+from rezdolin import Client, Password, Signed
+
+
+class Standard:
+    """The standard input and output, as a socket."""
+
+    @staticmethod
+    def recv(size):
+        return os.read(0, size)
+
+    @staticmethod
+    def sendall(data):
+        while data:
+            data = data[os.write(1, data):]
 
 
 def carry(endpoint, end, decide=None):
     """Carries an endpoint over a socket until it has ended, or the peer has gone. What it asks, `decide` answers."""
-    end.sendall(endpoint.feed(b''))
+    end.sendall(endpoint.begin())
     while endpoint.is_open:
         if endpoint.question:
             end.sendall(endpoint.answer(decide(endpoint.question)))
@@ -22,13 +39,13 @@ def carry(endpoint, end, decide=None):
         piece = end.recv(4096)
         if not piece:
             break
-        end.sendall(endpoint.feed(piece))
+        end.sendall(endpoint.step(piece))
 
 
-def is_trusted(question):
+def is_trusted(key):
     """Shows a person the key as OpenSSH does, and asks whether it is the server's: by characters that only the question tells,
     since a `y` may have been typed before it stood there."""
-    digest = base64.b64encode(hashlib.sha256(question.key).digest()).decode().rstrip('=')
+    digest = base64.b64encode(hashlib.sha256(key).digest()).decode().rstrip('=')
     return input(f"the server's key is SHA256:{digest}: type its first 6 characters to trust it: ") == digest[:6]
 
 
@@ -37,15 +54,30 @@ def bytes_of(path):
         return file.read()
 
 
-def main(host, port, user, password, path):
-    client = Client(user, [Password(password.encode())], None if path == '-' else [bytes_of(path)])
-    with socket.create_connection((host, int(port))) as end:
-        carry(client, end, is_trusted)
+def public_key_of(path):
+    """The public key of a file as ssh-keygen writes it."""
+    return base64.b64decode(bytes_of(path).split()[1])
+
+
+def main(host, port, user, secret, path):
+    def decide(question):
+        if question.kind == 'signature':
+            return Agent().sign(question)
+        return is_trusted(question.key) if path == '-' else question.key == bytes_of(path)
+
+    proof = Signed(public_key_of(secret[1:])) if secret.startswith('@') else Password(secret.encode())
+    client, told = Client(user, [proof]), sys.stdout
+    if host == '-':
+        told = sys.stderr
+        carry(client, Standard, decide)
+    else:
+        with socket.create_connection((host, int(port))) as end:
+            carry(client, end, decide)
     if client.is_authenticated:
         link = client.link()
-        print(link.user.decode(), 'at', link.peer_version.decode())
+        print(link.user.decode(), 'at', link.peer_version.decode(), file=told)
     else:
-        print(f'end {client.end}: F{client.fault} {client.detail}')
+        print(f'end {client.end}: F{client.fault} {client.detail}', file=told)
 
 
 if __name__ == '__main__':

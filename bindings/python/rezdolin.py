@@ -1,31 +1,36 @@
-"""SSH up to the authenticated user, as a client and as a server, and the packets of the session that goes on, over the
+"""SSH up to the authenticated user, as a client and as a server, and the packets of the session after that, over the
 proved library rezdolin.
 
     client = Client('al', [Password(b'secret')], [host_key])
-    socket.sendall(client.feed(b''))
+    socket.sendall(client.begin())
     while client.is_open:
-        socket.sendall(client.feed(socket.recv(4096)))
+        socket.sendall(client.step(socket.recv(4096)))
 
 Without the list of host keys, or of users, an endpoint asks: where `question` is one, `answer` goes on.
 
-A Client and a Server open no socket: feed takes what came and answers what is to be sent. Each keeps all bytes that it has
-received, and each call of the library makes all work anew: so feed what there is, rather than byte by byte. It wants
-librezdolin.so, in the folder out at the top of the repository or where the variable REZDOLIN says, and nothing else but
-Python's own library.
+A Client and a Server open no socket: a call takes what came, and answers what is to be sent: send all of it. Each keeps a record,
+which the library writes anew at each call, and overwrites the old one. A call that raises has changed nothing: the same call may be
+made again. The module needs librezdolin.so, in the folder out at the top of the repository or where the variable REZDOLIN says, and
+nothing else but Python's own library.
 """
 import ctypes
 import os
 import struct
 
-RECEIVED_LIMIT = 262144
 KEX = 'curve25519-sha256,curve25519-sha256@libssh.org'
 # (aes256-gcm@openssh.com too: where both sides are strict, and slow)
 CIPHERS = 'chacha20-poly1305@openssh.com'
 MACS = 'hmac-sha2-256-etm@openssh.com,hmac-sha2-512-etm@openssh.com,hmac-sha2-256,hmac-sha2-512,hmac-sha1'
 HOST_KEY, SERVICE = b'ssh-ed25519', b'ssh-connection'
-ANSWERED, MEMORY, CONFIG, UNREADABLE, ROOM, PAYLOAD, USED_UP, PACKET, MORE = range(9)
-OPEN, AUTHENTICATED, FAILED, CLOSED = range(4)
-ASKS = 5
+ANSWERED, MEMORY, CONFIG, UNREADABLE, ROOM, PAYLOAD, USED_UP, PACKET, MORE, RECORD, PARTS, UNASKED, IDENTITY = range(13)
+OPEN, AUTHENTICATED, FAILED, CLOSED, DISCONNECTED, ASKS = range(6)
+YES, NO, SIGNATURE, NO_SIGNATURE = range(1, 5)
+KEY_HERE, KEY_ELSEWHERE = 1, 2
+# why a text has no private key that can be used, by its number
+IDENTITY_FAULTS = ['', 'is no private key', 'is a public key', 'is a private key in another form', 'has a passphrase', 'is a key of RSA', 'is a key of ECDSA',
+                   'is a key of another kind', 'has several keys, or none', 'ends too early', 'has two halves that aren\'t of one key', 'is filled up wrongly']
+# what a question is on, by its number
+KINDS = ['host key', 'user', 'signature']
 # by which grammar the peer's version line is read: as deployed peers write it, or by the letter of RFC 4253 section 4.2
 READINGS = {'deployed': 0, 'strict': 1}
 
@@ -47,26 +52,32 @@ _Attempt = _struct('_Attempt', *[(name, _Bytes) for name in ('user', 'service', 
 _Client = _struct('_Client', ('side', _Side), ('server_host_key_algorithms', _Bytes),
                   ('plan', ctypes.POINTER(_Attempt)), ('plan_len', ctypes.c_size_t),
                   ('trusted_host_keys', ctypes.POINTER(_Bytes)), ('trusted_host_keys_len', ctypes.c_size_t),
-                  ('guess', ctypes.c_uint32), ('asks', ctypes.c_uint32), ('answers', _Bytes))
-_HostKey = _struct('_HostKey', ('algorithm', _Bytes), ('private_key', _Bytes))
+                  ('guess', ctypes.c_uint32), ('asks', ctypes.c_uint32))
+_HostKey = _struct('_HostKey', ('algorithm', _Bytes), ('key', _Bytes), ('place', ctypes.c_uint32))
 _User = _struct('_User', ('user', _Bytes), ('proof', _Bytes), ('method', ctypes.c_uint32))
 _Server = _struct('_Server', ('side', _Side), ('host_keys', ctypes.POINTER(_HostKey)), ('host_keys_len', ctypes.c_size_t),
                   *[(name, _Bytes) for name in ('services', 'methods', 'required', 'banner')],
                   ('notice_lines', ctypes.POINTER(_Bytes)), ('notice_lines_len', ctypes.c_size_t),
                   ('users', ctypes.POINTER(_User)), ('users_len', ctypes.c_size_t), ('tries', ctypes.c_uint32),
-                  ('asks', ctypes.c_uint32), ('answers', _Bytes))
-_EndpointAnswer = _struct('_EndpointAnswer', *[(name, ctypes.c_uint32) for name in ('status', 'config', 'end', 'fault', 'detail')],
-                          *[(name, ctypes.c_size_t) for name in ('used', 'sent', 'written', 'session_len', 'question_len')])
+                  ('asks', ctypes.c_uint32))
+_StepAnswer = _struct('_StepAnswer', *[(name, ctypes.c_uint32) for name in ('status', 'config', 'end', 'fault', 'detail')],
+                      *[(name, ctypes.c_size_t) for name in ('used', 'sent_len', 'record_len', 'told_len')])
 _BytesAnswer = _struct('_BytesAnswer', ('status', ctypes.c_uint32), ('fault', ctypes.c_uint32),
                        ('used', ctypes.c_size_t), ('len', ctypes.c_size_t))
 
-_IN, _OUT, _SIZE = ctypes.c_char_p, ctypes.c_void_p, ctypes.c_size_t
+_AT, _IN, _SIZE = ctypes.c_void_p, ctypes.c_char_p, ctypes.c_size_t
+_READ, _WRITTEN, _NUMBER = [_IN, _SIZE], [_AT, _SIZE], [ctypes.c_uint32]
+# of each call of an endpoint what it takes beside the parts
+_ENDPOINT_CALLS = {'begin': 2 * _WRITTEN, 'step': _WRITTEN + _READ + 3 * _WRITTEN, 'answer': _WRITTEN + _NUMBER + _READ + 3 * _WRITTEN,
+                   'disconnect': _WRITTEN + _NUMBER + _READ + _WRITTEN}
 _CALLS = {
-    'rezdolin_client': (_EndpointAnswer, [ctypes.POINTER(_Client), _IN, _SIZE, _SIZE, _OUT, _SIZE, _OUT, _SIZE, _OUT, _SIZE]),
-    'rezdolin_server': (_EndpointAnswer, [ctypes.POINTER(_Server), _IN, _SIZE, _SIZE, _OUT, _SIZE, _OUT, _SIZE, _OUT, _SIZE]),
-    'rezdolin_public_key': (_BytesAnswer, [_IN, _SIZE, _OUT, _SIZE]),
-    'rezdolin_seal': (_BytesAnswer, [_OUT, _SIZE, _IN, _SIZE, _IN, _SIZE, _OUT, _SIZE]),
-    'rezdolin_open': (_BytesAnswer, [_OUT, _SIZE, _IN, _SIZE, _OUT, _SIZE]),
+    **{f'rezdolin_{role}_{name}': (_StepAnswer, [ctypes.POINTER(kind)] + taken)
+       for role, kind in (('client', _Client), ('server', _Server)) for name, taken in _ENDPOINT_CALLS.items()},
+    'rezdolin_wipe': (None, _WRITTEN),
+    'rezdolin_public_key': (_BytesAnswer, _READ + _WRITTEN),
+    'rezdolin_read_identity': (_BytesAnswer, _READ + _WRITTEN),
+    'rezdolin_seal': (_BytesAnswer, _WRITTEN + 2 * _READ + _WRITTEN),
+    'rezdolin_open': (_BytesAnswer, _WRITTEN + _READ + _WRITTEN),
 }
 
 
@@ -83,12 +94,15 @@ _library = _load()
 
 
 class Refused(Exception):
-    """A call wasn't answered: `status`, and of CONFIG the number of the refusal, of PACKET that of the fault."""
+    """A call wasn't answered, and nothing has changed: `status` says why, and `number` of CONFIG which refusal, of PACKET and of
+    IDENTITY which fault."""
 
     def __init__(self, status, number=0):
-        config = {13: 'C13: a list names an algorithm that the library has not', 14: 'C14: a private key has 32 bytes'}
+        config = {13: 'C13: a list names an algorithm that the library has not', 14: 'C14: a private key that is here has 32 bytes, and one that is elsewhere its public key'}
         what = {MEMORY: 'memory ran out', CONFIG: config.get(number, f'C{number}'), UNREADABLE: 'what was put in can\'t be read', ROOM: 'no room',
-                PAYLOAD: 'a payload has 1 to 32768 bytes', USED_UP: 'keys used up', PACKET: f'P{number}'}
+                PAYLOAD: 'a payload has 1 to 32768 bytes', USED_UP: 'keys used up', PACKET: f'P{number}', RECORD: 'there is no record to go on with',
+                PARTS: 'the parts have changed', UNASKED: 'nothing is asked that this answers',
+                IDENTITY: 'the text ' + IDENTITY_FAULTS[number if status == IDENTITY else 0]}
         super().__init__(what[status])
         self.status, self.number = status, number
 
@@ -111,7 +125,19 @@ class Key:
     method = 2
 
     def __init__(self, key):
+        self.bytes, self.algorithm = _octets(key), HOST_KEY
+
+
+class Signed:
+    """A key whose private half is elsewhere, as in an agent: its public key, and the algorithm that it signs by, for an RSA key
+    rsa-sha2-512 where none is given. An endpoint that has it asks, and `answer` takes a signature. The peer is sent the public key; a
+    private key in an agent's form or in a file's is refused, as is a certificate."""
+    method = 3
+
+    def __init__(self, key, algorithm=None):
         self.bytes = _octets(key)
+        kind = self.bytes[4:4 + int.from_bytes(self.bytes[:4], 'big')]
+        self.algorithm = _text(algorithm) if algorithm else b'rsa-sha2-512' if kind == b'ssh-rsa' else kind
 
 
 class Nothing:
@@ -140,55 +166,83 @@ def _fields(record):
     return fields
 
 
+class _Secret:
+    """Bytes that are overwritten when they are of no use any more."""
+
+    def __init__(self, size):
+        # (at an address also where there are none)
+        self.room, self.len = bytearray(max(1, size)), size
+        self.at = (ctypes.c_char * len(self.room)).from_buffer(self.room)
+
+    def bytes(self, count):
+        """The first of them, copied."""
+        return bytes(memoryview(self.room)[:count])
+
+    def first(self, count):
+        """The first of them alone."""
+        kept = _Secret(count)
+        kept.room[:count] = memoryview(self.room)[:count]
+        return kept
+
+    def __del__(self, wipe=_library.rezdolin_wipe):
+        wipe(self.at, self.len)
+
+
 class Question:
-    """What an endpoint asks: of a client whether `key` is the server's; of a server, where `is_user`, whether `user` is
-    accepted by `proof`, or whether the key would do. All of it may be what the peer wants it to be."""
+    """What an endpoint asks, by its `kind`. 'host key', of a client: is `key` the server's? 'user', of a server: is `user` accepted
+    by `proof`, or would the key do? Both are answered by True or False. 'signature': one of `input`, by `key` and `algorithm`, as an
+    agent gives it, or None. All of it may be what the peer wants it to be."""
 
     def __init__(self, record):
-        kind, number, self.user, self.service, method, self.algorithm, self.key, password = _fields(record)
-        self.is_user, self.number = kind == b'\x01', int.from_bytes(number, 'big')
-        proofs = {Nothing.method: Nothing, Password.method: lambda: Password(password), Key.method: lambda: Key(self.key)}
-        self.proof = proofs[int.from_bytes(method, 'big')]() if self.is_user else None
+        kind, number, self.user, self.service, method, self.algorithm, self.key, last = _fields(record)
+        self.kind, self.number = KINDS[kind[0]], int.from_bytes(number, 'big')
+        proofs = {Nothing.method: Nothing, Password.method: lambda: Password(last), Key.method: lambda: Key(self.key)}
+        self.proof = proofs[int.from_bytes(method, 'big')]() if self.kind == 'user' else None
+        self.input = last if self.kind == 'signature' else None
 
 
 class Link:
-    """Both directions of a session, and what was agreed: its fields, numbered as include/rezdolin.h has them."""
+    """Both directions of a session, and what was agreed: its fields, numbered as include/rezdolin.h has them, but for the states of
+    both directions, which it counts in and keeps to itself."""
 
     def __init__(self, record):
         self.fields, self._seed = _fields(record), os.urandom(32)
-        self._incoming, self._outgoing = (ctypes.create_string_buffer(state, len(state)) for state in self.fields[:2])
+        self._incoming, self._outgoing = _Secret(len(self.fields[0])), _Secret(len(self.fields[1]))
+        for state, field in zip((self._incoming, self._outgoing), self.fields):
+            state.room[:] = field
+        self.fields[:2] = b'', b''
         self.session_identifier, self.user, self.service = self.fields[2:5]
         self.own_version, self.peer_version, self.host_key = self.fields[5:8]
         self.is_strict = self.fields[16] == b'\x01'
 
     def seal(self, payload):
         """The packet of a payload."""
-        out = ctypes.create_string_buffer(35000)
-        answer = _library.rezdolin_seal(self._outgoing, len(self._outgoing), self._seed, 32, payload, len(payload), out, len(out))
+        payload, out = _octets(payload), _Secret(35000)
+        answer = _library.rezdolin_seal(self._outgoing.at, self._outgoing.len, self._seed, 32, payload, len(payload), out.at, out.len)
         if answer.status != ANSWERED:
             raise Refused(answer.status)
-        return out.raw[:answer.len]
+        return out.bytes(answer.len)
 
     def open(self, received):
         """The payload of the packet at the front, and how many bytes it had; None where it isn't all there."""
-        out = ctypes.create_string_buffer(35000)
-        answer = _library.rezdolin_open(self._incoming, len(self._incoming), received, len(received), out, len(out))
+        received, out = _octets(received), _Secret(35000)
+        answer = _library.rezdolin_open(self._incoming.at, self._incoming.len, received, len(received), out.at, out.len)
         if answer.status == MORE:
             return None
         if answer.status != ANSWERED:
             raise Refused(answer.status, answer.fault)
-        return out.raw[:answer.len], answer.used
+        return out.bytes(answer.len), answer.used
 
 
 class _Endpoint:
     """What a client and a server have alike. `reading` is `deployed`, or `strict`: the peer's version line is then read by
     the letter of RFC 4253 section 4.2."""
-    call = None
+    role = None
 
     def __init__(self, kex=KEX, ciphers=CIPHERS, macs=MACS, softwareversion='rezdolin', strict=True, reading='deployed'):
         if reading not in READINGS:
             raise ValueError(f'reading is one of {", ".join(READINGS)}')
-        self._received, self._sent, self._record, self._answers = b'', 0, b'', b''
+        self._record, self._session = _Secret(0), None
         self.end, self.fault, self.detail, self.left, self.question = OPEN, 0, 0, b'', None
         texts = [_text(it) for it in (softwareversion, '', kex, ciphers, ciphers, macs, macs)]
         drawn = [os.urandom(size) for size in (16, 32, 32)]
@@ -205,76 +259,105 @@ class _Endpoint:
         """Whether the user is authenticated."""
         return self.end == AUTHENTICATED
 
-    def feed(self, piece):
-        """Receives a piece, and answers what is sent. What it doesn't use stands in `left`, for a Link. Where it asks,
-        `question` is a Question."""
-        if not self.is_open:
+    def begin(self):
+        """What it sends first. It is called once."""
+        if self._record.len or not self.is_open:
+            raise ValueError('it has begun')
+        return self._take(self._call('begin', None, (), 2), b'')
+
+    def step(self, piece):
+        """Takes a piece, and answers what is sent. What it doesn't use stands in `left`: for a Link, or for what follows the answer to
+        `question`, where it asks."""
+        piece = _octets(piece)
+        if self.question or not self.is_open:
             self.left += piece
             return b''
-        received = self._received + piece
-        if len(received) > RECEIVED_LIMIT:
-            raise Refused(ROOM)
-        return self._go_on(received, self._answers)
+        return self._take(self._call('step', self._record, (piece, len(piece)), 3), piece)
 
-    def answer(self, allowed):
-        """Answers the question, goes on with all that came, and answers what is sent. It may ask again."""
+    def answer(self, answer):
+        """Answers the question, goes on with what is `left`, and answers what is sent: True or False, or to one for a signature the
+        signature, or None. It may ask again."""
         if self.question is None:
             raise ValueError('nothing is asked')
-        return self._go_on(self._received, self._answers + (b'\x01' if allowed else b'\x00'))
+        signature = b'' if answer is None or isinstance(answer, bool) else _octets(answer)
+        number = NO_SIGNATURE if answer is None else SIGNATURE if not isinstance(answer, bool) else YES if answer else NO
+        came = self._call('answer', self._record, (number, signature, len(signature)), 3)
+        if came[0].end != OPEN or not self.left:
+            return self._take(came, self.left)
+        # where this isn't answered both count as not made, and nothing of them is sent
+        more = self._call('step', came[2], (self.left, len(self.left)), 3)
+        return came[1] + self._take(more, self.left)
 
-    def _go_on(self, received, answers):
-        said, sent, (out, record, question) = [], self._sent, [ctypes.create_string_buffer(size) for size in (8192, 65536, 36000)]
-        self._input.answers = _lent(answers)
+    def disconnect(self, reason=11, description=''):
+        """Ends it by a DISCONNECT, and answers that."""
+        description = _text(description)
+        return self._take(self._call('disconnect', self._record, (reason, description, len(description)), 1), self.left)
+
+    def _call(self, name, record, taken, rooms):
+        """Makes a call by this record: what it answers, what is sent, the next record, and what is told."""
+        call = getattr(_library, f'rezdolin_{self.role}_{name}')
+        read = () if record is None else (record.at, record.len)
+        sizes = [4096 + 2 * sum(read[1:]) + len(b''.join(it for it in taken if isinstance(it, bytes))), 8192, 4096]
         while True:
-            answer = type(self).call(self._input, received, len(received), sent, out, len(out), record, len(record),
-                                     question, len(question))
-            if answer.status != ANSWERED:
+            made = [_Secret(size) for size in sizes]
+            given = {1: made[1:2], 2: made[:2], 3: made}[rooms]
+            answer = call(ctypes.byref(self._input), *read, *taken, *[it for room in given for it in (room.at, room.len)])
+            if answer.status == ANSWERED:
+                lens = answer.record_len, answer.sent_len, answer.told_len
+                return answer, made[1].bytes(lens[1]), made[0].first(lens[0]), made[2].first(lens[2])
+            if answer.status != ROOM:
                 raise Refused(answer.status, answer.config)
-            said.append(out.raw[:answer.written])
-            sent += answer.written
-            if sent >= answer.sent:
-                break
-        # (a call that isn't answered changes nothing here)
-        self._sent, self._received, self._answers, self.left = sent, received, answers, received[answer.used:]
-        self.question = Question(question.raw[:answer.question_len]) if answer.end == ASKS else None
-        self.end, self.fault, self.detail = answer.end, answer.fault, answer.detail
-        self._record = record.raw[:answer.session_len]
-        return b''.join(said)
+            sizes = [max(it) for it in zip(sizes, (answer.record_len, answer.sent_len, answer.told_len))]
+
+    def _take(self, came, piece):
+        """Goes on with what a call answered that was given this piece, and answers what is sent."""
+        answer, sent, self._record, told = came
+        self.end, self.fault, self.detail, self.left = answer.end, answer.fault, answer.detail, piece[answer.used:]
+        self.question = Question(told.bytes(told.len)) if answer.end == ASKS else None
+        self._session = told if answer.end == AUTHENTICATED else None
+        return sent
 
     def link(self):
         """The session of an authenticated endpoint. It is taken once, since it counts packets: of two links each would seal by
         the same keys and numbers."""
         if not self.is_authenticated:
             raise ValueError('it isn\'t authenticated')
-        if not self._record:
+        if not self._session:
             raise ValueError('its link was taken')
-        record, self._record = self._record, b''
-        return Link(record)
+        session, self._session = self._session, None
+        return Link(session.bytes(session.len))
 
 
 class Client(_Endpoint):
-    """A client: its user, the attempts in order, and the host keys that it trusts, each a public key. Without these it asks."""
-    call = _library.rezdolin_client
+    """A client: its user, the attempts in order, and the host keys that it trusts, each a public key. Without these it asks, as it has
+    to where a key is Signed."""
+    role = 'client'
 
     def __init__(self, user, plan, trusted_host_keys=None, **lists):
         super().__init__(**lists)
-        attempts = [_Attempt(_lent(_text(user)), _lent(SERVICE), _lent(HOST_KEY if proof.method == 2 else b''), _lent(proof.bytes),
-                             proof.method, proof.method == 2) for proof in plan]
+        if trusted_host_keys is not None and any(isinstance(proof, Signed) for proof in plan):
+            raise ValueError('a client with a key that is elsewhere asks: leave the trusted host keys out')
+        attempts = [_Attempt(_lent(_text(user)), _lent(SERVICE), _lent(getattr(proof, 'algorithm', b'')), _lent(proof.bytes),
+                             proof.method, isinstance(proof, (Key, Signed))) for proof in plan]
         plan, trusted = _list(_Attempt, attempts), _list(_Bytes, [_lent(_octets(key)) for key in trusted_host_keys or []])
-        self._input = _Client(self._side, _lent(HOST_KEY), *plan, *trusted, False, trusted_host_keys is None, _lent(b''))
+        self._input = _Client(self._side, _lent(HOST_KEY), *plan, *trusted, False, trusted_host_keys is None)
 
 
 class Server(_Endpoint):
-    """A server: the 32 bytes of its private host key, and who is accepted by what: pairs of a user and a proof. Without
-    these it asks."""
-    call = _library.rezdolin_server
+    """A server: its host key, the 32 bytes of the private key or a Signed one, and who is accepted by what: pairs of a user and a
+    proof. Without these it asks, as it has to where the host key is Signed."""
+    role = 'server'
 
     def __init__(self, host_key, users=None, methods='publickey,password', required='', banner=b'', tries=6, **lists):
         super().__init__(**lists)
-        keys = _list(_HostKey, [_HostKey(_lent(HOST_KEY), _lent(_octets(host_key)))])
+        is_elsewhere = isinstance(host_key, Signed)
+        if is_elsewhere and users is not None:
+            raise ValueError('a server with a key that is elsewhere asks: leave the users out')
+        key = (host_key.algorithm, host_key.bytes) if is_elsewhere else (HOST_KEY, _octets(host_key))
+        keys = _list(_HostKey, [_HostKey(*[_lent(it) for it in key], KEY_ELSEWHERE if is_elsewhere else KEY_HERE)])
         entries = _list(_User, [_User(_lent(_text(user)), _lent(proof.bytes), proof.method) for user, proof in users or []])
         texts = [_lent(_text(it)) for it in (SERVICE, methods, required, banner)]
-        self._input = _Server(self._side, *keys, *texts, *_list(_Bytes, []), *entries, tries, users is None, _lent(b''))
+        self._input = _Server(self._side, *keys, *texts, *_list(_Bytes, []), *entries, tries, users is None)
 
 
 def public_key(private_key):
@@ -284,3 +367,12 @@ def public_key(private_key):
     if answer.status != ANSWERED:
         raise Refused(answer.status)
     return out.raw[:answer.len]
+
+
+def read_identity(text):
+    """The 32 bytes of the private key in the text of a file as `ssh-keygen -t ed25519` writes it, without a passphrase."""
+    text, out = _text(text), _Secret(32)
+    answer = _library.rezdolin_read_identity(text, len(text), out.at, out.len)
+    if answer.status != ANSWERED:
+        raise Refused(answer.status, answer.fault)
+    return out.bytes(answer.len)

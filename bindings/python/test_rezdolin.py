@@ -3,14 +3,21 @@
     python3 test_rezdolin.py
 """
 import asyncio
+import base64
+import os
+import shutil
 import socket
+import subprocess
+import tempfile
 import threading
+import time
 import unittest
 import warnings
 
 import rezdolin
+from agent import Agent, string
 from client import carry
-from rezdolin import Client, Key, Nothing, Password, Refused, Server, public_key
+from rezdolin import Client, Key, Nothing, Password, Refused, Server, Signed, public_key, read_identity
 
 try:
     with warnings.catch_warnings():
@@ -22,15 +29,16 @@ except ImportError:
 HOST, USER = bytes(range(32)), bytes(range(1, 33))
 
 
-def meet(client, server, size=1000):
-    to_server, to_client = client.feed(b''), server.feed(b'')
-    while to_server or to_client:
-        given, to_server = to_server, b''
-        for at in range(0, len(given), size):
-            to_client += server.feed(given[at:at + size])
-        given, to_client = to_client, b''
-        for at in range(0, len(given), size):
-            to_server += client.feed(given[at:at + size])
+def meet(client, server, size=1000, decide=None):
+    """Both talk until neither has more to send; what they ask, `decide` answers."""
+    came = {client: server.begin(), server: client.begin()}
+    while any(came.values()):
+        for endpoint, other in ((server, client), (client, server)):
+            given, came[endpoint] = came[endpoint], b''
+            for at in range(0, len(given), size):
+                came[other] += endpoint.step(given[at:at + size])
+                while endpoint.question:
+                    came[other] += endpoint.answer(decide(endpoint.question))
 
 
 def pair(proof):
@@ -69,24 +77,104 @@ class Memory(unittest.TestCase):
             # by the kind of the proof: a password may be any bytes, those of a public key too
             return question.user == b'al' and question.proof.bytes == accepted.get(type(question.proof))
 
-        for proof, trusts, user, lets_in in (
-                (Key(USER), True, 'al', True), (Password(b'secret'), True, 'al', True), (Password(public_key(USER)), True, 'al', False),
-                (Key(USER), False, 'al', False), (Key(USER), True, 'bo', False)):
-            client, server = Client(user, [Nothing(), proof]), Server(HOST)
-            to_server, to_client = client.feed(b''), server.feed(b'')
-            while to_server or to_client:
-                to_client += server.feed(to_server)
-                while server.question:
-                    to_client += server.answer(decides(server.question))
-                to_server, to_client = client.feed(to_client), b''
-                if client.question:
-                    self.assertEqual((client.question.is_user, client.question.key), (False, public_key(HOST)))
-                    to_server += client.answer(trusts)
-            self.assertEqual(client.is_authenticated and server.is_authenticated, lets_in)
-            if not trusts:
-                self.assertEqual((client.end, client.fault), (rezdolin.FAILED, 10))
+        for size in (1, 30, 1000):
+            for proof, trusts, user, lets_in in (
+                    (Key(USER), True, 'al', True), (Password(b'secret'), True, 'al', True), (Password(public_key(USER)), True, 'al', False),
+                    (Key(USER), False, 'al', False), (Key(USER), True, 'bo', False)):
+                def decide(question):
+                    if question.kind == 'user':
+                        return decides(question)
+                    self.assertEqual((question.kind, question.key, question.proof, question.input), ('host key', public_key(HOST), None, None))
+                    return trusts
+
+                client, server = Client(user, [Nothing(), proof]), Server(HOST)
+                meet(client, server, size, decide)
+                self.assertEqual(client.is_authenticated and server.is_authenticated, lets_in)
+                if not trusts:
+                    self.assertEqual((client.end, client.fault), (rezdolin.FAILED, 10))
         with self.assertRaises(ValueError):
             client.answer(True)
+
+    def come_to_question(self):
+        client, server = Client('al', [Key(USER)]), Server(HOST, [('al', Key(public_key(USER)))])
+        to_server, to_client = client.begin(), server.begin()
+        while not client.question:
+            to_client += server.step(to_server)
+            to_server, to_client = client.step(to_client), b''
+        return client, server, to_server
+
+    def test_waits(self):
+        client, server, to_server = self.come_to_question()
+        question, left = client.question, client.left
+        self.assertEqual((client.step(b'x'), client.question, client.left), (b'', question, left + b'x'))
+        client.left = left
+        for wrong, status in ((b'signature', rezdolin.UNASKED), (None, rezdolin.UNASKED)):
+            with self.assertRaises(Refused) as refused:
+                client.answer(wrong)
+            self.assertEqual((refused.exception.status, client.question, client.left), (status, question, left))
+        for wrong in (1, 0, 'yes'):
+            with self.assertRaises(TypeError):
+                client.answer(wrong)
+        to_server += client.answer(True)
+        while to_server:
+            to_server = client.step(server.step(to_server))
+        self.assertTrue(client.is_authenticated and server.is_authenticated)
+
+    def test_disconnects(self):
+        client, server, _ = self.come_to_question()
+        server.step(client.disconnect(11, 'going'))
+        self.assertEqual((client.end, client.detail, server.end, server.detail), (rezdolin.DISCONNECTED, 11, rezdolin.CLOSED, 11))
+        self.assertEqual((client.step(b'more'), client.is_open), (b'', False))
+        with self.assertRaises(Refused) as refused:
+            client.disconnect()
+        self.assertEqual(refused.exception.status, rezdolin.RECORD)
+        client, _, _ = self.come_to_question()
+        with self.assertRaises(Refused) as refused:
+            client.disconnect(11, b'\xff')
+        self.assertEqual((refused.exception.status, client.question is None), (rezdolin.UNREADABLE, False))
+
+    def test_records(self):
+        client, server, _ = self.come_to_question()
+        old = client._record
+        client.answer(True)
+        kept = bytes(client._record.room)
+        self.assertNotEqual(old.room, kept)
+        room = old.room
+        del old
+        self.assertEqual(bytes(room), bytes(len(room)))
+        client._input.side.strict = 2
+        with self.assertRaises(Refused) as refused:
+            client.step(b'')
+        self.assertEqual((refused.exception.status, bytes(client._record.room)), (rezdolin.PARTS, kept))
+        client._input.side.strict = 1
+        # the version, the digest of the parts, and the version in the record itself
+        for at, status in ((0, rezdolin.RECORD), (3, rezdolin.RECORD), (4, rezdolin.PARTS), (35, rezdolin.PARTS), (39, rezdolin.RECORD)):
+            client._record.room[at] ^= 1
+            with self.assertRaises(Refused) as refused:
+                client.step(b'')
+            client._record.room[at] ^= 1
+            self.assertEqual((refused.exception.status, bytes(client._record.room)), (status, kept))
+        whole = client._record
+        for count in (0, 3, 4, 35, 36, len(kept) - 1):
+            cut = client._record = whole.first(count)
+            with self.assertRaises(Refused) as refused:
+                client.step(b'')
+            self.assertEqual((refused.exception.status, client._record), (rezdolin.RECORD, cut))
+        # with another byte after these it is none, or that of another endpoint
+        came = set()
+        for at in range(36, len(kept)):
+            changed = whole.first(len(kept))
+            changed.room[at] ^= 1
+            try:
+                client._call('step', changed, (b'', 0), 3)
+                came.add(rezdolin.ANSWERED)
+            except Refused as refusal:
+                came.add(refusal.status)
+        self.assertEqual(came - {rezdolin.MEMORY}, {rezdolin.ANSWERED, rezdolin.RECORD})
+        client._record = whole
+        client.step(b'')
+        with self.assertRaises(ValueError):
+            client.begin()
 
     def test_refusals(self):
         client, server = pair(Password(b'wrong'))
@@ -96,20 +184,30 @@ class Memory(unittest.TestCase):
         meet(client, Server(HOST, []))
         self.assertEqual((client.end, client.fault), (rezdolin.FAILED, 10))
         with self.assertRaises(Refused) as refused:
-            Client('al', [], [], kex='').feed(b'')
+            Client('al', [], [], kex='').begin()
         self.assertEqual((refused.exception.status, refused.exception.number), (rezdolin.CONFIG, 1))
         for wrong in (b'', HOST[1:], HOST + b'\n', HOST + HOST):
             for endpoint in (Client('al', [Key(wrong)], []), Server(wrong, [])):
                 with self.assertRaises(Refused) as refused:
-                    endpoint.feed(b'')
+                    endpoint.begin()
+                self.assertEqual((refused.exception.status, refused.exception.number), (rezdolin.CONFIG, 14))
+        agent_s = public_key(USER) + string(USER + public_key(USER)[19:]) + string(b'al@host')
+        for private in (USER, agent_s, agent_s[4:], b''):
+            for endpoint in (Client('al', [Signed(private, 'ssh-ed25519')]), Server(Signed(private, 'ssh-ed25519'))):
+                with self.assertRaises(Refused) as refused:
+                    endpoint.begin()
                 self.assertEqual((refused.exception.status, refused.exception.number), (rezdolin.CONFIG, 14))
         with self.assertRaises(Refused) as refused:
-            Client('al', [], [], ciphers='aes128-ctr').feed(b'')
+            Client('al', [], [], ciphers='aes128-ctr').begin()
         self.assertEqual((refused.exception.status, refused.exception.number), (rezdolin.CONFIG, 13))
         for user, proof in (('al', Password(b'')), ('al', Key(b'')), ('', Password(b'secret')), ('', Nothing())):
             with self.assertRaises(Refused) as refused:
-                Server(HOST, [('al', Password(b'secret')), (user, proof)]).feed(b'')
+                Server(HOST, [('al', Password(b'secret')), (user, proof)]).begin()
             self.assertEqual(refused.exception.status, rezdolin.UNREADABLE)
+        blob = public_key(USER)
+        for made in (lambda: Client('al', [Signed(blob)], [public_key(HOST)]), lambda: Server(Signed(public_key(HOST)), [])):
+            with self.assertRaises(ValueError):
+                made()
 
     def test_a_number_is_no_key(self):
         # of a number `bytes` makes zeros
@@ -124,14 +222,15 @@ class Memory(unittest.TestCase):
         for line, taken in lines.items():
             endpoints = [made for how in ({}, {'reading': 'strict'}) for made in (Client('al', [], [], **how), Server(HOST, [], **how))]
             for endpoint, is_taken in zip(endpoints, taken):
-                endpoint.feed(line)
+                endpoint.begin()
+                endpoint.step(line)
                 self.assertEqual((endpoint.end, endpoint.fault), (rezdolin.OPEN, 0) if is_taken else (rezdolin.FAILED, 1), line)
         with self.assertRaises(ValueError):
             Client('al', [], [], reading='lax')
         for endpoint in (Client('al', [], []), Server(HOST, [])):
             endpoint._input.side.reading = 2
             with self.assertRaises(Refused) as refused:
-                endpoint.feed(b'')
+                endpoint.begin()
             self.assertEqual(refused.exception.status, rezdolin.UNREADABLE)
 
     def test_nothing(self):
@@ -139,6 +238,92 @@ class Memory(unittest.TestCase):
         meet(client, server)
         self.assertTrue(client.is_authenticated and server.is_authenticated)
         self.assertFalse(client.link().is_strict)
+
+
+@unittest.skipUnless(all(map(shutil.which, ('ssh-agent', 'ssh-add', 'ssh-keygen'))), 'OpenSSH is not there')
+class Agents(unittest.TestCase):
+    """By keys that a real ssh-agent alone has."""
+
+    @classmethod
+    def setUpClass(cls):
+        cls.room = tempfile.TemporaryDirectory(prefix='rezdolin-agent.')
+        path = os.path.join(cls.room.name, 'agent')
+        cls.process = subprocess.Popen(['ssh-agent', '-D', '-a', path], stdout=subprocess.DEVNULL)
+        while not os.path.exists(path):
+            time.sleep(0.02)
+        cls.agent, cls.keys = Agent(path), {}
+        for name in ('ed25519', 'rsa'):
+            key = os.path.join(cls.room.name, name)
+            subprocess.run(['ssh-keygen', '-q', '-t', name, '-N', '', '-f', key], check=True)
+            subprocess.run(['ssh-add', '-q', key], check=True, env={**os.environ, 'SSH_AUTH_SOCK': path})
+            os.remove(key)
+            with open(key + '.pub', encoding='utf-8') as file:
+                cls.keys[name] = base64.b64decode(file.read().split()[1])
+
+    @classmethod
+    def tearDownClass(cls):
+        cls.process.terminate()
+        cls.process.wait()
+        cls.room.cleanup()
+
+    def test_lists(self):
+        self.assertEqual(sorted(self.agent.keys()), sorted(self.keys.values()))
+
+    def test_signs(self):
+        def decide(question):
+            asked.append((question.kind, question.key))
+            if question.kind == 'signature':
+                return self.agent.sign(question)
+            return question.key == (user if question.kind == 'user' else public_key(HOST))
+
+        for user in self.keys.values():
+            for size in (9, 1000):
+                asked = []
+                client, server = Client('al', [Signed(user)]), Server(HOST)
+                meet(client, server, size, decide)
+                self.assertTrue(client.is_authenticated and server.is_authenticated, (client.fault, server.fault))
+                self.assertEqual(asked, [('host key', public_key(HOST)), ('user', user), ('signature', user), ('user', user)])
+                self.assertEqual(server.link().fields[19], user)
+
+    def test_host_key(self):
+        def decide(question):
+            return self.agent.sign(question) if question.kind == 'signature' else True
+
+        client, server = Client('al', [Nothing()], [self.keys['ed25519']]), Server(Signed(self.keys['ed25519']))
+        meet(client, server, 77, decide)
+        self.assertTrue(client.is_authenticated and server.is_authenticated, (client.fault, server.fault))
+
+    def test_files(self):
+        def read(name):
+            with open(os.path.join(self.room.name, name), encoding='utf-8') as file:
+                return file.read()
+
+        for name, words in (('plain', ['-t', 'ed25519', '-N', '']), ('locked', ['-t', 'ed25519', '-N', 'a phrase']), ('other', ['-t', 'ecdsa', '-N', '']),
+                            ('pem', ['-t', 'rsa', '-m', 'PEM', '-N', ''])):
+            subprocess.run(['ssh-keygen', '-q', *words, '-f', os.path.join(self.room.name, name)], check=True)
+        key, text = read_identity(read('plain')), read('plain')
+        self.assertEqual(public_key(key), base64.b64decode(read('plain.pub').split()[1]))
+        self.assertEqual(read_identity(text.encode()), key)
+        for refused_text, number in (('', 1), ('no key', 1), (read('plain.pub'), 2), (read('pem'), 3), (read('locked'), 4), (read('other'), 6)):
+            with self.assertRaises(Refused) as refused:
+                read_identity(refused_text)
+            self.assertEqual((refused.exception.status, refused.exception.number), (rezdolin.IDENTITY, number), refused_text)
+        with self.assertRaises(Refused) as refused:
+            read_identity(b'\xff')
+        self.assertEqual(refused.exception.status, rezdolin.UNREADABLE)
+
+    def test_refuses(self):
+        host = Signed(public_key(HOST))  # which it hasn't
+
+        def decide(question):
+            return self.agent.sign(question) if question.kind == 'signature' else True
+
+        client, server = Client('al', [Nothing()]), Server(host)
+        meet(client, server, 1000, decide)
+        self.assertEqual((server.end, server.fault, client.end, client.detail), (rezdolin.FAILED, 9, rezdolin.CLOSED, 3))
+        client, server = Client('al', [Signed(public_key(USER)), Password(b'secret')]), Server(HOST, [('al', Password(b'secret'))])
+        meet(client, server, 1000, decide)
+        self.assertTrue(client.is_authenticated and server.is_authenticated)
 
 
 @unittest.skipUnless(asyncssh, 'asyncssh is not there')
@@ -189,8 +374,8 @@ class Asyncssh(unittest.TestCase):
                 gone.set()
                 thread.join()
             self.assertTrue(server.is_authenticated, (server.end, server.fault, server.detail))
-        link = server.link()
-        self.assertEqual((link.user, link.fields[17]), (b'al', b'\x01'))
+            link = server.link()
+            self.assertEqual((link.user, link.fields[17]), (b'al', b'\x01'))
 
 
 if __name__ == '__main__':

@@ -1,10 +1,14 @@
-//! A client over TCP: it authenticates by a password, and tells what was agreed.
+//! A client over TCP: it authenticates by a password, or by a key that an agent has, and tells what was agreed.
 //!
-//!     client HOST:PORT USER PASSWORD KEY-FILE
+//!     client HOST:PORT USER SECRET KEY-FILE
 //!
-//! KEY-FILE has the host key's bytes, which `cut -d' ' -f2 host.pub | base64 -d` gives; where it is `-`, a person is asked.
+//! SECRET is the password; or `@` and the path of a public key's bytes, by which the agent of `SSH_AUTH_SOCK` signs (of an RSA key by
+//! rsa-sha2-512). KEY-FILE has the host key's bytes, which `cut -d' ' -f2 host.pub | base64 -d` gives, as it does of another public
+//! key; where it is `-`, a person is asked.
 
-use rezdolin::{Client, Draws, End, Fed, Proof, Question};
+mod agent;
+
+use rezdolin::{Answer, Client, ClientParts, Draws, Proof, PublicKey, Question, Stands};
 use std::error::Error;
 use std::fs::File;
 use std::io::{Read, Write};
@@ -19,8 +23,7 @@ fn draw<const N: usize>() -> std::io::Result<[u8; N]> {
 
 /// Shows a person the key, and asks whether it is the server's: by digits that only the question tells, since a `y` may have
 /// been typed before it stood there.
-fn is_trusted(question: &Question) -> std::io::Result<bool> {
-    let Question::HostKey { key, .. } = question else { return Ok(false) };
+fn is_trusted(key: &[u8]) -> std::io::Result<bool> {
     let digits: String = key.iter().map(|byte| format!("{byte:02x}")).collect();
     eprint!("the server's key is {digits}: type its last 6 digits to trust it: ");
     let mut line = String::new();
@@ -28,45 +31,68 @@ fn is_trusted(question: &Question) -> std::io::Result<bool> {
     Ok(line.trim().len() == 6 && digits.ends_with(line.trim()))
 }
 
-/// Carries the client over a stream until it has ended, and answers what came after that.
-fn carry(stream: &mut (impl Read + Write), client: &mut Client) -> Result<Vec<u8>, Box<dyn Error>> {
-    let (mut piece, mut chunk) = (0..0, [0; 4096]);
+/// Answers a question, by the host key that is trusted, and the agent.
+fn answer(client: &mut Client, trusted: Option<&[u8]>, out: &mut Vec<u8>) -> Result<(), Box<dyn Error>> {
+    let Stands::Asks(question) = client.stands().clone() else { return Ok(()) };
+    match question {
+        Question::HostKey { key, .. } => {
+            let is_yes = trusted.map_or_else(|| is_trusted(&key), |trusted| Ok(key == trusted))?;
+            client.answer(is_yes, out)?;
+        }
+        Question::Signature { algorithm, key, input } => {
+            let path = std::env::var("SSH_AUTH_SOCK")?;
+            let signature = agent::sign(path.as_ref(), &algorithm, &key, &input)?;
+            client.answer(signature.as_deref().map_or(Answer::NoSignature, Answer::Signature), out)?;
+        }
+        Question::User { .. } => unreachable!("a client isn't asked who is accepted"),
+    }
+    Ok(())
+}
+
+/// Carries the client over a stream until it has ended.
+fn carry(
+    stream: &mut (impl Read + Write),
+    client: &mut Client,
+    trusted: Option<&[u8]>,
+    mut out: Vec<u8>,
+) -> Result<(), Box<dyn Error>> {
+    let mut piece = [0; 4096];
     loop {
-        let mut out = Vec::new();
-        let mut fed = client.feed(&chunk[piece], &mut out)?;
-        while let Fed::Asks(question) = fed {
-            stream.write_all(&out)?;
-            out.clear();
-            fed = client.answer(is_trusted(&question)?, &mut out)?;
-        }
         stream.write_all(&out)?;
-        if client.end() != End::Open {
-            return Ok(client.left().to_vec());
+        out.clear();
+        match client.stands() {
+            Stands::Open => match stream.read(&mut piece)? {
+                0 => return Err("the server has gone".into()),
+                count => client.step(&piece[..count], &mut out)?,
+            },
+            Stands::Asks(_) => answer(client, trusted, &mut out)?,
+            _ => return Ok(()),
         }
-        let count = stream.read(&mut chunk)?;
-        if count == 0 {
-            return Err("the server has gone".into());
-        }
-        piece = 0..count;
     }
 }
 
 fn main() -> Result<(), Box<dyn Error>> {
     let words: Vec<String> = std::env::args().skip(1).collect();
-    let [address, user, password, key] = &words[..] else {
-        return Err("client HOST:PORT USER PASSWORD KEY-FILE".into());
+    let [address, user, secret, path] = &words[..] else {
+        return Err("client HOST:PORT USER SECRET KEY-FILE".into());
     };
     let draws = Draws { cookie: draw()?, exchange_random: draw()?, padding_seed: draw()? };
-    let plan = vec![Proof::Password(password.clone().into_bytes())];
-    let mut client = match key.as_str() {
-        "-" => Client::asking(draws, user, plan),
-        path => Client::new(draws, user, plan, vec![std::fs::read(path)?]),
+    let proof = match secret.strip_prefix('@') {
+        None => Proof::Password(secret.clone().into_bytes()),
+        Some(path) => {
+            let blob = std::fs::read(path)?;
+            let algorithm = if blob.starts_with(b"\0\0\0\x07ssh-rsa") { "rsa-sha2-512" } else { "ssh-ed25519" };
+            Proof::Signed(PublicKey { algorithm: algorithm.into(), blob })
+        }
     };
-    carry(&mut TcpStream::connect(address)?, &mut client)?;
-    let end = client.end();
+    let trusted = if path == "-" { None } else { Some(std::fs::read(path)?) };
+    let mut out = Vec::new();
+    let mut client = Client::begin(ClientParts::asking(draws, user, vec![proof]), &mut out)?;
+    carry(&mut TcpStream::connect(address)?, &mut client, trusted.as_deref(), out)?;
+    let stands = client.stands().clone();
     match client.into_link(draw()?) {
         Some(link) => println!("{} at {}", link.user().escape_ascii(), link.peer_version().escape_ascii()),
-        None => println!("{end:?}"),
+        None => println!("{stands:?}"),
     }
     Ok(())
 }

@@ -43,6 +43,15 @@ pub const METHOD_PASSWORD: u32 = 1;
 /// The method `publickey`.
 pub const METHOD_PUBLICKEY: u32 = 2;
 
+/// The method `publickey`, by a private key that is elsewhere.
+pub const METHOD_SIGNED: u32 = 3;
+
+/// The private half of a host key is put in.
+pub const KEY_HERE: u32 = 1;
+
+/// It is elsewhere.
+pub const KEY_ELSEWHERE: u32 = 2;
+
 /// A side is willing to be strict.
 pub const STRICT_YES: u32 = 1;
 
@@ -90,13 +99,13 @@ pub struct ClientInput<'a> {
     pub trusted_host_keys: List<'a, Bytes<'a>>,
     pub guess: u32,
     pub asks: u32,
-    pub answers: Bytes<'a>,
 }
 
 #[repr(C)]
 pub struct HostKeyInput<'a> {
     pub algorithm: Bytes<'a>,
-    pub private_key: Bytes<'a>,
+    pub key: Bytes<'a>,
+    pub place: u32,
 }
 
 #[repr(C)]
@@ -118,22 +127,20 @@ pub struct ServerInput<'a> {
     pub users: List<'a, UserInput<'a>>,
     pub tries: u32,
     pub asks: u32,
-    pub answers: Bytes<'a>,
 }
 
 #[repr(C)]
-#[derive(Clone, Copy)]
-pub struct EndpointAnswer {
+#[derive(Clone, Copy, Default)]
+pub struct StepAnswer {
     pub status: u32,
     pub config: u32,
     pub end: u32,
     pub fault: u32,
     pub detail: u32,
     pub used: usize,
-    pub sent: usize,
-    pub written: usize,
-    pub session_len: usize,
-    pub question_len: usize,
+    pub sent_len: usize,
+    pub record_len: usize,
+    pub told_len: usize,
 }
 
 #[repr(C)]
@@ -146,32 +153,98 @@ pub struct BytesAnswer {
 }
 
 unsafe extern "C" {
-    fn rezdolin_client(
+    fn rezdolin_client_begin(
         client: &ClientInput<'_>,
-        received: *const u8,
-        received_len: usize,
-        skip: usize,
+        next: *mut u8,
+        next_len: usize,
         out: *mut u8,
         out_len: usize,
-        session: *mut u8,
-        session_len: usize,
-        question: *mut u8,
-        question_len: usize,
-    ) -> EndpointAnswer;
-    fn rezdolin_server(
+    ) -> StepAnswer;
+    fn rezdolin_client_step(
+        client: &ClientInput<'_>,
+        record: *const u8,
+        record_len: usize,
+        piece: *const u8,
+        piece_len: usize,
+        next: *mut u8,
+        next_len: usize,
+        out: *mut u8,
+        out_len: usize,
+        told: *mut u8,
+        told_len: usize,
+    ) -> StepAnswer;
+    fn rezdolin_client_answer(
+        client: &ClientInput<'_>,
+        record: *const u8,
+        record_len: usize,
+        answer: u32,
+        signature: *const u8,
+        signature_len: usize,
+        next: *mut u8,
+        next_len: usize,
+        out: *mut u8,
+        out_len: usize,
+        told: *mut u8,
+        told_len: usize,
+    ) -> StepAnswer;
+    fn rezdolin_client_disconnect(
+        client: &ClientInput<'_>,
+        record: *const u8,
+        record_len: usize,
+        reason: u32,
+        description: *const u8,
+        description_len: usize,
+        out: *mut u8,
+        out_len: usize,
+    ) -> StepAnswer;
+    fn rezdolin_server_begin(
         server: &ServerInput<'_>,
-        received: *const u8,
-        received_len: usize,
-        skip: usize,
+        next: *mut u8,
+        next_len: usize,
         out: *mut u8,
         out_len: usize,
-        session: *mut u8,
-        session_len: usize,
-        question: *mut u8,
-        question_len: usize,
-    ) -> EndpointAnswer;
+    ) -> StepAnswer;
+    fn rezdolin_server_step(
+        server: &ServerInput<'_>,
+        record: *const u8,
+        record_len: usize,
+        piece: *const u8,
+        piece_len: usize,
+        next: *mut u8,
+        next_len: usize,
+        out: *mut u8,
+        out_len: usize,
+        told: *mut u8,
+        told_len: usize,
+    ) -> StepAnswer;
+    fn rezdolin_server_answer(
+        server: &ServerInput<'_>,
+        record: *const u8,
+        record_len: usize,
+        answer: u32,
+        signature: *const u8,
+        signature_len: usize,
+        next: *mut u8,
+        next_len: usize,
+        out: *mut u8,
+        out_len: usize,
+        told: *mut u8,
+        told_len: usize,
+    ) -> StepAnswer;
+    fn rezdolin_server_disconnect(
+        server: &ServerInput<'_>,
+        record: *const u8,
+        record_len: usize,
+        reason: u32,
+        description: *const u8,
+        description_len: usize,
+        out: *mut u8,
+        out_len: usize,
+    ) -> StepAnswer;
+    fn rezdolin_wipe(bytes: *mut u8, bytes_len: usize);
     fn rezdolin_public_key(private_key: *const u8, private_key_len: usize, out: *mut u8, out_len: usize)
     -> BytesAnswer;
+    fn rezdolin_read_identity(text: *const u8, text_len: usize, out: *mut u8, out_len: usize) -> BytesAnswer;
     fn rezdolin_seal(
         state: *mut u8,
         state_len: usize,
@@ -195,58 +268,136 @@ unsafe extern "C" {
 // SAFETY of each call below: pointers and lengths are those of references that live for the call, and no memory that is
 // written overlaps another. Nothing else is asked of a caller.
 
-pub fn client(
-    input: &ClientInput<'_>,
-    received: &[u8],
-    skip: usize,
-    out: &mut [u8],
-    session: &mut [u8],
-    question: &mut [u8],
-) -> EndpointAnswer {
-    let (out_len, session_len, question_len) = (out.len(), session.len(), question.len());
+/// What is put in for an endpoint of either role.
+#[derive(Clone, Copy)]
+pub enum Input<'i> {
+    Client(&'i ClientInput<'i>),
+    Server(&'i ServerInput<'i>),
+}
+
+/// A call of an endpoint that stands.
+#[derive(Clone, Copy)]
+pub enum Call<'c> {
+    Begin,
+    Step(&'c [u8]),
+    Answer(u32, &'c [u8]),
+    Disconnect(u32, &'c [u8]),
+}
+
+/// The rooms of a call: for the next record, for what is sent, and for what is told.
+pub struct Rooms {
+    pub next: Secret,
+    pub out: Secret,
+    pub told: Secret,
+}
+
+/// Makes a call of an endpoint by its record.
+pub fn call(input: Input<'_>, record: &[u8], call: Call<'_>, rooms: &mut Rooms) -> StepAnswer {
+    let (next, out, told) = (&mut rooms.next.0[..], &mut rooms.out.0[..], &mut rooms.told.0[..]);
+    let (next_len, out_len, told_len) = (next.len(), out.len(), told.len());
+    let (next, out, told) = (next.as_mut_ptr(), out.as_mut_ptr(), told.as_mut_ptr());
+    let (at, len) = (record.as_ptr(), record.len());
     unsafe {
-        rezdolin_client(
-            input,
-            received.as_ptr(),
-            received.len(),
-            skip,
-            out.as_mut_ptr(),
-            out_len,
-            session.as_mut_ptr(),
-            session_len,
-            question.as_mut_ptr(),
-            question_len,
-        )
+        match (input, call) {
+            (Input::Client(client), Call::Begin) => rezdolin_client_begin(client, next, next_len, out, out_len),
+            (Input::Client(client), Call::Step(piece)) => rezdolin_client_step(
+                client,
+                at,
+                len,
+                piece.as_ptr(),
+                piece.len(),
+                next,
+                next_len,
+                out,
+                out_len,
+                told,
+                told_len,
+            ),
+            (Input::Client(client), Call::Answer(answer, signature)) => rezdolin_client_answer(
+                client,
+                at,
+                len,
+                answer,
+                signature.as_ptr(),
+                signature.len(),
+                next,
+                next_len,
+                out,
+                out_len,
+                told,
+                told_len,
+            ),
+            (Input::Client(client), Call::Disconnect(reason, text)) => {
+                rezdolin_client_disconnect(client, at, len, reason, text.as_ptr(), text.len(), out, out_len)
+            }
+            (Input::Server(server), Call::Begin) => rezdolin_server_begin(server, next, next_len, out, out_len),
+            (Input::Server(server), Call::Step(piece)) => rezdolin_server_step(
+                server,
+                at,
+                len,
+                piece.as_ptr(),
+                piece.len(),
+                next,
+                next_len,
+                out,
+                out_len,
+                told,
+                told_len,
+            ),
+            (Input::Server(server), Call::Answer(answer, signature)) => rezdolin_server_answer(
+                server,
+                at,
+                len,
+                answer,
+                signature.as_ptr(),
+                signature.len(),
+                next,
+                next_len,
+                out,
+                out_len,
+                told,
+                told_len,
+            ),
+            (Input::Server(server), Call::Disconnect(reason, text)) => {
+                rezdolin_server_disconnect(server, at, len, reason, text.as_ptr(), text.len(), out, out_len)
+            }
+        }
     }
 }
 
-pub fn server(
-    input: &ServerInput<'_>,
-    received: &[u8],
-    skip: usize,
-    out: &mut [u8],
-    session: &mut [u8],
-    question: &mut [u8],
-) -> EndpointAnswer {
-    let (out_len, session_len, question_len) = (out.len(), session.len(), question.len());
-    unsafe {
-        rezdolin_server(
-            input,
-            received.as_ptr(),
-            received.len(),
-            skip,
-            out.as_mut_ptr(),
-            out_len,
-            session.as_mut_ptr(),
-            session_len,
-            question.as_mut_ptr(),
-            question_len,
-        )
+/// Overwrites bytes.
+pub fn wipe(bytes: &mut [u8]) {
+    unsafe { rezdolin_wipe(bytes.as_mut_ptr(), bytes.len()) }
+}
+
+/// Bytes that are overwritten when they are dropped. They never grow, so no copy of them is left behind.
+#[derive(Default)]
+pub struct Secret(pub Box<[u8]>);
+
+impl Secret {
+    /// So many zeros.
+    pub fn room(len: usize) -> Secret {
+        Secret(vec![0; len].into())
+    }
+
+    /// A copy of these bytes.
+    pub fn copy(bytes: &[u8]) -> Secret {
+        Secret(bytes.into())
+    }
+}
+
+impl Drop for Secret {
+    fn drop(&mut self) {
+        wipe(&mut self.0);
     }
 }
 
 pub fn public_key(private_key: &[u8], out: &mut [u8]) -> BytesAnswer {
     unsafe { rezdolin_public_key(private_key.as_ptr(), private_key.len(), out.as_mut_ptr(), out.len()) }
+}
+
+pub fn read_identity(text: &[u8], out: &mut [u8]) -> BytesAnswer {
+    unsafe { rezdolin_read_identity(text.as_ptr(), text.len(), out.as_mut_ptr(), out.len()) }
 }
 
 pub fn seal(state: &mut [u8], padding_seed: &[u8], payload: &[u8], out: &mut [u8]) -> BytesAnswer {

@@ -1,25 +1,25 @@
-//! SSH up to the authenticated user, as a client and as a server, and the packets of the session that goes on: safe Rust
+//! SSH up to the authenticated user, as a client and as a server, and the packets of the session after that: safe Rust
 //! over the proved static library `rezdolin`.
 //!
-//! A [`Client`] and a [`Server`] open no socket: [`feed`](Client::feed) takes what came and appends what is to be sent. Whom
-//! they trust they know by a list, or they ask: then `feed` answers a [`Question`], and [`answer`](Client::answer) goes on.
-//! Each keeps all bytes that it has received, and its library call makes all work anew: so feed what there is, rather
-//! than byte by byte.
+//! A [`Client`] and a [`Server`] open no socket: [`step`](Client::step) takes what came, and appends what is to be sent. Whom
+//! they trust they know by a list, or they ask: then [`stands`](Client::stands) is a [`Question`], and
+//! [`answer`](Client::answer) goes on. Each keeps the record that the library writes at each call, and overwrites it when the next one
+//! is there, and when it is dropped. It is a value of some thousand bytes that is moved, sent to another thread and kept in a table as
+//! any other.
 #![deny(missing_docs)]
 
 mod door;
 mod link;
 mod question;
 
-use door::{AttemptInput, Bytes, ClientInput, EndpointAnswer, HostKeyInput, List, ServerInput, SideInput, UserInput};
+use door::{
+    AttemptInput, Bytes, Call, ClientInput, HostKeyInput, Input, List, Rooms, Secret, ServerInput, SideInput,
+    StepAnswer, UserInput,
+};
 pub use link::{Link, LinkFault};
-pub use question::{Fed, Question};
+pub use question::{Answer, Question};
 use std::error::Error;
 use std::fmt;
-use std::mem::take;
-
-/// The most bytes that an endpoint receives before it has ended.
-pub const RECEIVED_LIMIT: usize = 262_144;
 
 /// The bytes that one connection draws. They are random, and nobody can foresee them; no two connections have the same.
 pub struct Draws {
@@ -29,6 +29,13 @@ pub struct Draws {
     pub exchange_random: [u8; 32],
     /// The secret of which padding is made.
     pub padding_seed: [u8; 32],
+}
+
+impl Drop for Draws {
+    fn drop(&mut self) {
+        door::wipe(&mut self.exchange_random);
+        door::wipe(&mut self.padding_seed);
+    }
 }
 
 /// By which grammar an endpoint reads its peer's version line. A line that isn't taken ends it as F1. What it sends itself is
@@ -114,6 +121,18 @@ pub enum Proof {
     /// By a key of ssh-ed25519: at a client the 32 bytes of the private key, about which the server is asked first; at a
     /// server the public key ([`public_key`]).
     Key(Vec<u8>),
+    /// At a client that asks: by a key whose private half is elsewhere, as in an agent. The server is asked about it first, and then
+    /// the client asks for a signature.
+    Signed(PublicKey),
+}
+
+impl Drop for Proof {
+    fn drop(&mut self) {
+        match self {
+            Proof::None | Proof::Signed(_) => {}
+            Proof::Password(bytes) | Proof::Key(bytes) => door::wipe(bytes),
+        }
+    }
 }
 
 impl Proof {
@@ -122,6 +141,15 @@ impl Proof {
             Proof::None => door::METHOD_NONE,
             Proof::Password(_) => door::METHOD_PASSWORD,
             Proof::Key(_) => door::METHOD_PUBLICKEY,
+            Proof::Signed(_) => door::METHOD_SIGNED,
+        }
+    }
+
+    fn algorithm(&self) -> &[u8] {
+        match self {
+            Proof::None | Proof::Password(_) => b"",
+            Proof::Key(_) => b"ssh-ed25519",
+            Proof::Signed(key) => key.algorithm.as_bytes(),
         }
     }
 
@@ -129,15 +157,59 @@ impl Proof {
         match self {
             Proof::None => b"",
             Proof::Password(bytes) | Proof::Key(bytes) => bytes,
+            Proof::Signed(key) => &key.blob,
+        }
+    }
+}
+
+/// A public key, and the algorithm by which its private half signs.
+#[derive(Clone, PartialEq, Eq)]
+pub struct PublicKey {
+    /// `ssh-ed25519`, `rsa-sha2-512`, or another one of the key's.
+    pub algorithm: String,
+    /// The public key, as an agent lists it: of `ssh-ed25519`, or of a kind whose keys have two fields, as those of RSA and ECDSA. The
+    /// peer is sent it. A private key in an agent's form or in a file's is refused, as is a certificate.
+    pub blob: Vec<u8>,
+}
+
+/// A server's host key.
+pub enum HostKey {
+    /// The 32 bytes of the private key of ssh-ed25519.
+    Here([u8; 32]),
+    /// The private half is elsewhere: a server that asks asks for a signature.
+    Elsewhere(PublicKey),
+}
+
+impl Drop for HostKey {
+    fn drop(&mut self) {
+        if let HostKey::Here(bytes) = self {
+            door::wipe(bytes);
+        }
+    }
+}
+
+impl HostKey {
+    fn input(&self) -> HostKeyInput<'_> {
+        match self {
+            HostKey::Here(key) => {
+                HostKeyInput { algorithm: Bytes::new(b"ssh-ed25519"), key: Bytes::new(key), place: door::KEY_HERE }
+            }
+            HostKey::Elsewhere(key) => HostKeyInput {
+                algorithm: Bytes::new(key.algorithm.as_bytes()),
+                key: Bytes::new(&key.blob),
+                place: door::KEY_ELSEWHERE,
+            },
         }
     }
 }
 
 /// How an endpoint stands.
-#[derive(Clone, Copy, Debug, PartialEq, Eq)]
-pub enum End {
-    /// It goes on.
+#[derive(Clone, Debug, PartialEq, Eq)]
+pub enum Stands {
+    /// It takes the next piece.
     Open,
+    /// It waits for the answer to this question.
+    Asks(Question),
     /// The user is authenticated.
     Authenticated,
     /// It failed.
@@ -149,22 +221,27 @@ pub enum End {
     },
     /// The peer sent a DISCONNECT with this reason.
     Closed(u32),
+    /// It was told to disconnect, for this reason.
+    Disconnected(u32),
 }
 
-/// Why a call wasn't answered.
+/// Why a call wasn't answered. Nothing has changed then: the same call may be made again.
 #[derive(Clone, Copy, Debug, PartialEq, Eq)]
 pub enum Refused {
-    /// Memory ran out: the same call may be made again.
+    /// Memory ran out.
     Memory,
     /// The parts make no config; the number of the refusal, 1 for C1. With 13 a list names an algorithm that the library hasn't,
-    /// with 14 a private key hasn't 32 bytes.
+    /// with 14 a private key hasn't 32 bytes, or the blob of a [`PublicKey`] is none.
     Config(u32),
-    /// What was put in can't be read: an entry of a server has no user, or an empty password or key.
+    /// What was put in can't be read: an entry of a server has no user, or an empty password or key; a key is elsewhere, and the
+    /// endpoint doesn't ask; or a signature has no byte.
     Unreadable,
-    /// It was answered and hadn't asked.
+    /// Nothing is asked that this answers.
     Unasked,
-    /// More than [`RECEIVED_LIMIT`] bytes came.
-    TooMuch,
+    /// The endpoint has ended.
+    Ended,
+    /// A text has no private key that can be used; the number of why, as `include/rezdolin.h` has it.
+    Identity(u32),
 }
 
 impl fmt::Display for Refused {
@@ -173,128 +250,128 @@ impl fmt::Display for Refused {
             Refused::Memory => f.write_str("out of memory"),
             Refused::Config(number) => write!(f, "the parts make no config: C{number}"),
             Refused::Unreadable => f.write_str("what was put in can't be read"),
-            Refused::Unasked => f.write_str("nothing was asked"),
-            Refused::TooMuch => f.write_str("the peer sends too much"),
+            Refused::Unasked => f.write_str("nothing is asked that this answers"),
+            Refused::Ended => f.write_str("the endpoint has ended"),
+            Refused::Identity(number) => write!(f, "the text has no private key that can be used: {number}"),
         }
     }
 }
 
 impl Error for Refused {}
 
-/// What an endpoint has received, sent, and was answered.
+/// What changes of an endpoint.
 struct Talk {
-    received: Vec<u8>,
-    sent: usize,
-    answers: Vec<u8>,
-    asks: bool,
-    end: End,
-    record: Vec<u8>,
-    /// Where the last piece begins, and how many of all bytes were used.
-    last: usize,
-    used: usize,
+    /// Its record; none where it has ended.
+    record: Secret,
+    stands: Stands,
+    /// The record of its session, where it is authenticated.
+    session: Secret,
+    /// What came and isn't used.
+    left: Vec<u8>,
 }
 
-impl Default for Talk {
-    fn default() -> Talk {
-        let (received, answers, record) = (Vec::new(), Vec::new(), Vec::new());
-        Talk { received, sent: 0, answers, asks: false, end: End::Open, record, last: 0, used: 0 }
+/// What a call came to.
+struct Came {
+    answer: StepAnswer,
+    rooms: Rooms,
+}
+
+/// Makes a call by this record, in rooms that are large enough.
+fn made(input: Input<'_>, record: &[u8], call: Call<'_>) -> Result<Came, Refused> {
+    let more = match call {
+        Call::Step(piece) => piece.len(),
+        _ => 0,
+    };
+    let mut sizes = [4096 + record.len() + more, 8192, 4096];
+    loop {
+        let [next, out, told] = sizes.map(Secret::room);
+        let mut rooms = Rooms { next, out, told };
+        let answer = door::call(input, record, call, &mut rooms);
+        match answer.status {
+            0 => return Ok(Came { answer, rooms }),
+            1 => return Err(Refused::Memory),
+            2 => return Err(Refused::Config(answer.config)),
+            3 => return Err(Refused::Unreadable),
+            4 => {
+                sizes = [sizes[0].max(answer.record_len), sizes[1].max(answer.sent_len), sizes[2].max(answer.told_len)]
+            }
+            11 => return Err(Refused::Unasked),
+            status => unreachable!("by its own parts and record an endpoint is answered otherwise than by {status}"),
+        }
     }
 }
 
 impl Talk {
-    /// Receives a piece, and goes on.
-    fn feed(
-        &mut self,
-        piece: &[u8],
-        out: &mut Vec<u8>,
-        call: impl Fn(Call<'_>) -> EndpointAnswer,
-    ) -> Result<Fed, Refused> {
-        if self.end != End::Open {
-            return Ok(Fed::Used(0));
-        }
-        let before = self.received.len();
-        if before + piece.len() > RECEIVED_LIMIT {
-            return Err(Refused::TooMuch);
-        }
-        self.received.extend_from_slice(piece);
-        let last = std::mem::replace(&mut self.last, before);
-        let fed = self.go_on(out, call);
-        if fed.is_err() {
-            self.received.truncate(before);
-            self.last = last;
-        }
-        fed
+    /// An endpoint that has received nothing.
+    fn begin(input: Input<'_>, out: &mut Vec<u8>) -> Result<Talk, Refused> {
+        let came = made(input, &[], Call::Begin)?;
+        let mut talk =
+            Talk { record: Secret::default(), stands: Stands::Open, session: Secret::default(), left: Vec::new() };
+        talk.take(came, out);
+        Ok(talk)
     }
 
-    /// Answers the question, and goes on with what was received.
-    fn answer(
-        &mut self,
-        allowed: bool,
-        out: &mut Vec<u8>,
-        call: impl Fn(Call<'_>) -> EndpointAnswer,
-    ) -> Result<Fed, Refused> {
-        if !self.asks {
+    /// Takes a piece.
+    fn step(&mut self, input: Input<'_>, piece: &[u8], out: &mut Vec<u8>) -> Result<(), Refused> {
+        if self.stands == Stands::Open {
+            let came = made(input, &self.record.0, Call::Step(piece))?;
+            self.left.extend_from_slice(&piece[came.answer.used..]);
+            self.take(came, out);
+        } else {
+            self.left.extend_from_slice(piece);
+        }
+        Ok(())
+    }
+
+    /// Answers the question, and goes on with what is left. Where that isn't answered both calls count as not made: nothing of
+    /// them was sent.
+    fn answer(&mut self, input: Input<'_>, answer: Answer<'_>, out: &mut Vec<u8>) -> Result<(), Refused> {
+        if !matches!(self.stands, Stands::Asks(_)) {
             return Err(Refused::Unasked);
         }
-        self.answers.push(u8::from(allowed));
-        let fed = self.go_on(out, call);
-        if fed.is_err() {
-            self.answers.pop();
+        let first = made(input, &self.record.0, answer.call())?;
+        if first.answer.end != 0 || self.left.is_empty() {
+            self.take(first, out);
+            return Ok(());
         }
-        fed
+        let more = made(input, &first.rooms.next.0[..first.answer.record_len], Call::Step(&self.left))?;
+        self.left.drain(..more.answer.used);
+        self.take(first, out);
+        self.take(more, out);
+        Ok(())
     }
 
-    /// What it has received and not used, where it has ended.
-    fn left(&self) -> &[u8] {
-        if self.end == End::Open { &[] } else { &self.received[self.used..] }
+    fn disconnect(&mut self, input: Input<'_>, reason: u32, text: &str, out: &mut Vec<u8>) -> Result<(), Refused> {
+        if !matches!(self.stands, Stands::Open | Stands::Asks(_)) {
+            return Err(Refused::Ended);
+        }
+        let came = made(input, &self.record.0, Call::Disconnect(reason, text.as_bytes()))?;
+        self.take(came, out);
+        Ok(())
     }
 
-    /// What comes of all that was received and answered.
-    fn go_on(&mut self, out: &mut Vec<u8>, call: impl Fn(Call<'_>) -> EndpointAnswer) -> Result<Fed, Refused> {
-        let (mut room, mut record, mut question) = ([0; 4096], vec![0; 65536], vec![0; 36000]);
-        loop {
-            let (received, skip, answers) = (&self.received[..], self.sent, &self.answers[..]);
-            let answer =
-                call(Call { received, skip, answers, out: &mut room, record: &mut record, question: &mut question });
-            match answer.status {
-                0 => {}
-                1..=3 => {
-                    return Err([Refused::Memory, Refused::Config(answer.config), Refused::Unreadable]
-                        [answer.status as usize - 1]);
-                }
-                status => unreachable!("the library answers no status {status}"),
-            }
-            out.extend_from_slice(&room[..answer.written]);
-            self.sent += answer.written;
-            if self.sent >= answer.sent {
-                self.end = match answer.end {
-                    0 | 5 => End::Open,
-                    1 => End::Authenticated,
-                    2 => End::Failed { fault: answer.fault, detail: answer.detail },
-                    _ => End::Closed(answer.detail),
-                };
-                record.truncate(answer.session_len);
-                self.record = record;
-                self.asks = answer.end == 5;
-                self.used = answer.used;
-                return Ok(if self.asks {
-                    Fed::Asks(Question::new(&question[..answer.question_len]))
-                } else {
-                    Fed::Used(answer.used.saturating_sub(self.last))
-                });
-            }
+    /// Goes on with what a call came to.
+    fn take(&mut self, came: Came, out: &mut Vec<u8>) {
+        let Came { answer, rooms } = came;
+        let told = &rooms.told.0[..answer.told_len];
+        out.extend_from_slice(&rooms.out.0[..answer.sent_len]);
+        self.record = Secret::copy(&rooms.next.0[..answer.record_len]);
+        self.stands = match answer.end {
+            0 => Stands::Open,
+            1 => Stands::Authenticated,
+            2 => Stands::Failed { fault: answer.fault, detail: answer.detail },
+            3 => Stands::Closed(answer.detail),
+            4 => Stands::Disconnected(answer.detail),
+            _ => Stands::Asks(Question::new(told)),
+        };
+        if answer.end == 1 {
+            self.session = Secret::copy(told);
         }
     }
-}
 
-/// What a call of the library takes beside the parts.
-struct Call<'c> {
-    received: &'c [u8],
-    skip: usize,
-    answers: &'c [u8],
-    out: &'c mut [u8],
-    record: &'c mut [u8],
-    question: &'c mut [u8],
+    fn into_link(self, padding_seed: [u8; 32]) -> Option<Link> {
+        (self.stands == Stands::Authenticated).then(|| Link::new(self.session, padding_seed))
+    }
 }
 
 /// What a client is made of. It is the same as long as the client lives.
@@ -309,7 +386,7 @@ pub struct ClientParts {
     pub plan: Vec<Proof>,
     /// The host keys that are trusted ([`public_key`]).
     pub trusted_host_keys: Vec<Vec<u8>>,
-    /// Whether it asks if the host key is trusted, and doesn't read the list.
+    /// Whether it asks if the host key is trusted, and for signatures, and doesn't read the list.
     pub asks: bool,
 }
 
@@ -319,6 +396,28 @@ impl ClientParts {
     pub fn new(draws: Draws, user: &str, plan: Vec<Proof>, trusted_host_keys: Vec<Vec<u8>>) -> ClientParts {
         ClientParts { side: Side::default(), draws, user: user.into(), plan, trusted_host_keys, asks: false }
     }
+
+    /// The parts of a client that asks.
+    #[must_use]
+    pub fn asking(draws: Draws, user: &str, plan: Vec<Proof>) -> ClientParts {
+        ClientParts { asks: true, ..ClientParts::new(draws, user, plan, Vec::new()) }
+    }
+}
+
+impl ClientParts {
+    /// Makes a call with these parts.
+    fn lend<T>(&self, call: impl FnOnce(Input<'_>) -> T) -> T {
+        let plan: Vec<_> = self.plan.iter().map(|proof| attempt(&self.user, proof)).collect();
+        let trusted: Vec<_> = self.trusted_host_keys.iter().map(|key| Bytes::new(key)).collect();
+        call(Input::Client(&ClientInput {
+            side: self.side.input(&self.draws),
+            server_host_key_algorithms: Bytes::new(b"ssh-ed25519"),
+            plan: List::new(&plan),
+            trusted_host_keys: List::new(&trusted),
+            guess: 0,
+            asks: u32::from(self.asks),
+        }))
+    }
 }
 
 /// A client.
@@ -327,96 +426,75 @@ pub struct Client {
     talk: Talk,
 }
 
-impl From<ClientParts> for Client {
-    /// A client of these parts that has received nothing.
-    fn from(parts: ClientParts) -> Client {
-        Client { parts, talk: Talk::default() }
-    }
-}
-
 impl Client {
-    /// A client that has received nothing. Feed it no bytes for what it sends first.
-    #[must_use]
-    pub fn new(draws: Draws, user: &str, plan: Vec<Proof>, trusted_host_keys: Vec<Vec<u8>>) -> Client {
-        ClientParts::new(draws, user, plan, trusted_host_keys).into()
-    }
-
-    /// A client that has received nothing, and asks whether the host key is trusted.
-    #[must_use]
-    pub fn asking(draws: Draws, user: &str, plan: Vec<Proof>) -> Client {
-        ClientParts { asks: true, ..ClientParts::new(draws, user, plan, Vec::new()) }.into()
-    }
-
-    /// Receives a piece and appends to `out` what is sent. Answers how many bytes of the piece were used: all while it
-    /// is open. What stands after them is for the [`Link`]. Or it answers what it asks: then send what was appended, and
-    /// [`answer`](Client::answer).
+    /// A client of these parts that has received nothing; what it sends first is appended to `out`.
     ///
     /// # Errors
     ///
-    /// As [`Refused`] says; the piece then counts as not received, and what was appended to `out` is good.
-    pub fn feed(&mut self, piece: &[u8], out: &mut Vec<u8>) -> Result<Fed, Refused> {
-        let mut talk = take(&mut self.talk);
-        let fed = talk.feed(piece, out, |call| self.call(call));
-        self.talk = talk;
-        fed
+    /// As [`Refused`] says.
+    pub fn begin(parts: ClientParts, out: &mut Vec<u8>) -> Result<Client, Refused> {
+        let talk = parts.lend(|input| Talk::begin(input, out))?;
+        Ok(Client { parts, talk })
     }
 
-    /// Answers the question, goes on with what came after it, and appends to `out` what is sent.
+    /// Takes a piece of what came, and appends to `out` what is to be sent: send all of it. What it doesn't use is kept: for what follows
+    /// the [`answer`](Client::answer) where it asks, and for the [`Link`] where it has ended ([`left`](Client::left)).
     ///
     /// # Errors
     ///
-    /// As [`Refused`] says; it still asks then, and what was appended to `out` is good.
-    pub fn answer(&mut self, allowed: bool, out: &mut Vec<u8>) -> Result<Fed, Refused> {
-        let mut talk = take(&mut self.talk);
-        let fed = talk.answer(allowed, out, |call| self.call(call));
-        self.talk = talk;
-        fed
+    /// As [`Refused`] says; the piece then counts as not received.
+    pub fn step(&mut self, piece: &[u8], out: &mut Vec<u8>) -> Result<(), Refused> {
+        let Client { parts, talk } = self;
+        parts.lend(|input| talk.step(input, piece, out))
     }
 
-    fn call(&self, call: Call<'_>) -> EndpointAnswer {
-        let parts = &self.parts;
-        let plan: Vec<_> = parts.plan.iter().map(|proof| attempt(&parts.user, proof)).collect();
-        let trusted: Vec<_> = parts.trusted_host_keys.iter().map(|key| Bytes::new(key)).collect();
-        let input = ClientInput {
-            side: parts.side.input(&parts.draws),
-            server_host_key_algorithms: Bytes::new(b"ssh-ed25519"),
-            plan: List::new(&plan),
-            trusted_host_keys: List::new(&trusted),
-            guess: 0,
-            asks: u32::from(parts.asks),
-            answers: Bytes::new(call.answers),
-        };
-        door::client(&input, call.received, call.skip, call.out, call.record, call.question)
+    /// Answers the question, goes on with what came after it, and appends to `out` what is to be sent.
+    ///
+    /// # Errors
+    ///
+    /// As [`Refused`] says; it still asks then.
+    pub fn answer<'a>(&mut self, answer: impl Into<Answer<'a>>, out: &mut Vec<u8>) -> Result<(), Refused> {
+        let (Client { parts, talk }, answer) = (self, answer.into());
+        parts.lend(|input| talk.answer(input, answer, out))
     }
 
-    /// How it stands. It is open while it asks.
+    /// Ends it by a DISCONNECT with this reason and description (RFC 4253 section 11.1), which is appended to `out`.
+    ///
+    /// # Errors
+    ///
+    /// As [`Refused`] says.
+    pub fn disconnect(&mut self, reason: u32, description: &str, out: &mut Vec<u8>) -> Result<(), Refused> {
+        let Client { parts, talk } = self;
+        parts.lend(|input| talk.disconnect(input, reason, description, out))
+    }
+
+    /// How it stands.
     #[must_use]
-    pub fn end(&self) -> End {
-        self.talk.end
+    pub fn stands(&self) -> &Stands {
+        &self.talk.stands
     }
 
-    /// What it has received and not used, where it has ended: for the [`Link`] of a client that is authenticated.
+    /// What it has received and not used.
     #[must_use]
     pub fn left(&self) -> &[u8] {
-        self.talk.left()
+        &self.talk.left
     }
 
     /// The session of an authenticated client, with 32 random bytes that served nothing else; else none.
     #[must_use]
     pub fn into_link(self, padding_seed: [u8; 32]) -> Option<Link> {
-        (self.talk.end == End::Authenticated).then(|| Link::new(self.talk.record, padding_seed))
+        self.talk.into_link(padding_seed)
     }
 }
 
 fn attempt<'a>(user: &'a str, proof: &'a Proof) -> AttemptInput<'a> {
-    let is_key = matches!(proof, Proof::Key(_));
     AttemptInput {
         user: Bytes::new(user.as_bytes()),
         service: Bytes::new(b"ssh-connection"),
-        algorithm: Bytes::new(if is_key { b"ssh-ed25519" } else { b"" }),
+        algorithm: Bytes::new(proof.algorithm()),
         secret: Bytes::new(proof.bytes()),
         method: proof.method(),
-        ask: u32::from(is_key),
+        ask: u32::from(matches!(proof, Proof::Key(_) | Proof::Signed(_))),
     }
 }
 
@@ -426,8 +504,8 @@ pub struct ServerParts {
     pub side: Side,
     /// What is drawn for the connection.
     pub draws: Draws,
-    /// The 32 bytes of the private host key.
-    pub host_key: [u8; 32],
+    /// Its host key.
+    pub host_key: HostKey,
     /// Who is accepted, and by what.
     pub users: Vec<(String, Proof)>,
     /// The methods that all have to succeed, as a list of names; none where one success is enough.
@@ -436,16 +514,39 @@ pub struct ServerParts {
     pub banner: Vec<u8>,
     /// The request at which a failure ends the session, 1 to 20.
     pub tries: u32,
-    /// Whether it asks who is accepted, and doesn't read the list.
+    /// Whether it asks who is accepted, and for signatures, and doesn't read the list.
     pub asks: bool,
 }
 
 impl ServerParts {
     /// The parts of a server that accepts these users.
     #[must_use]
-    pub fn new(draws: Draws, host_key: [u8; 32], users: Vec<(String, Proof)>) -> ServerParts {
+    pub fn new(draws: Draws, host_key: HostKey, users: Vec<(String, Proof)>) -> ServerParts {
         let (side, required, banner) = (Side::default(), String::new(), Vec::new());
         ServerParts { side, draws, host_key, users, required, banner, tries: 6, asks: false }
+    }
+
+    /// The parts of a server that asks.
+    #[must_use]
+    pub fn asking(draws: Draws, host_key: HostKey) -> ServerParts {
+        ServerParts { asks: true, ..ServerParts::new(draws, host_key, Vec::new()) }
+    }
+
+    /// Makes a call with these parts.
+    fn lend<T>(&self, call: impl FnOnce(Input<'_>) -> T) -> T {
+        let users: Vec<_> = self.users.iter().map(|(user, proof)| user_input(user, proof)).collect();
+        call(Input::Server(&ServerInput {
+            side: self.side.input(&self.draws),
+            host_keys: List::new(&[self.host_key.input()]),
+            services: Bytes::new(b"ssh-connection"),
+            methods: Bytes::new(b"publickey,password"),
+            required: Bytes::new(self.required.as_bytes()),
+            banner: Bytes::new(&self.banner),
+            notice_lines: List::new(&[]),
+            users: List::new(&users),
+            tries: self.tries,
+            asks: u32::from(self.asks),
+        }))
     }
 }
 
@@ -455,89 +556,64 @@ pub struct Server {
     talk: Talk,
 }
 
-impl From<ServerParts> for Server {
-    /// A server of these parts that has received nothing.
-    fn from(parts: ServerParts) -> Server {
-        Server { parts, talk: Talk::default() }
-    }
-}
-
 impl Server {
-    /// A server that has received nothing. Feed it no bytes for what it sends first.
-    #[must_use]
-    pub fn new(draws: Draws, host_key: [u8; 32], users: Vec<(String, Proof)>) -> Server {
-        ServerParts::new(draws, host_key, users).into()
-    }
-
-    /// A server that has received nothing, and asks who is accepted.
-    #[must_use]
-    pub fn asking(draws: Draws, host_key: [u8; 32]) -> Server {
-        ServerParts { asks: true, ..ServerParts::new(draws, host_key, Vec::new()) }.into()
-    }
-
-    /// Receives a piece and appends to `out` what is sent. Answers how many bytes of the piece were used: all while it
-    /// is open. What stands after them is for the [`Link`]. Or it answers what it asks: then send what was appended, and
-    /// [`answer`](Server::answer).
+    /// A server of these parts that has received nothing; what it sends first is appended to `out`.
     ///
     /// # Errors
     ///
-    /// As [`Refused`] says; the piece then counts as not received, and what was appended to `out` is good.
-    pub fn feed(&mut self, piece: &[u8], out: &mut Vec<u8>) -> Result<Fed, Refused> {
-        let mut talk = take(&mut self.talk);
-        let fed = talk.feed(piece, out, |call| self.call(call));
-        self.talk = talk;
-        fed
+    /// As [`Refused`] says.
+    pub fn begin(parts: ServerParts, out: &mut Vec<u8>) -> Result<Server, Refused> {
+        let talk = parts.lend(|input| Talk::begin(input, out))?;
+        Ok(Server { parts, talk })
     }
 
-    /// Answers the question, goes on with what came after it, and appends to `out` what is sent.
+    /// Takes a piece of what came, and appends to `out` what is to be sent: send all of it. What it doesn't use is kept: for what follows
+    /// the [`answer`](Server::answer) where it asks, and for the [`Link`] where it has ended ([`left`](Server::left)).
     ///
     /// # Errors
     ///
-    /// As [`Refused`] says; it still asks then, and what was appended to `out` is good.
-    pub fn answer(&mut self, allowed: bool, out: &mut Vec<u8>) -> Result<Fed, Refused> {
-        let mut talk = take(&mut self.talk);
-        let fed = talk.answer(allowed, out, |call| self.call(call));
-        self.talk = talk;
-        fed
+    /// As [`Refused`] says; the piece then counts as not received.
+    pub fn step(&mut self, piece: &[u8], out: &mut Vec<u8>) -> Result<(), Refused> {
+        let Server { parts, talk } = self;
+        parts.lend(|input| talk.step(input, piece, out))
     }
 
-    fn call(&self, call: Call<'_>) -> EndpointAnswer {
-        let parts = &self.parts;
-        let users: Vec<_> = parts.users.iter().map(|(user, proof)| user_input(user, proof)).collect();
-        let host_keys =
-            [HostKeyInput { algorithm: Bytes::new(b"ssh-ed25519"), private_key: Bytes::new(&parts.host_key) }];
-        let input = ServerInput {
-            side: parts.side.input(&parts.draws),
-            host_keys: List::new(&host_keys),
-            services: Bytes::new(b"ssh-connection"),
-            methods: Bytes::new(b"publickey,password"),
-            required: Bytes::new(parts.required.as_bytes()),
-            banner: Bytes::new(&parts.banner),
-            notice_lines: List::new(&[]),
-            users: List::new(&users),
-            tries: parts.tries,
-            asks: u32::from(parts.asks),
-            answers: Bytes::new(call.answers),
-        };
-        door::server(&input, call.received, call.skip, call.out, call.record, call.question)
+    /// Answers the question, goes on with what came after it, and appends to `out` what is to be sent.
+    ///
+    /// # Errors
+    ///
+    /// As [`Refused`] says; it still asks then.
+    pub fn answer<'a>(&mut self, answer: impl Into<Answer<'a>>, out: &mut Vec<u8>) -> Result<(), Refused> {
+        let (Server { parts, talk }, answer) = (self, answer.into());
+        parts.lend(|input| talk.answer(input, answer, out))
     }
 
-    /// How it stands. It is open while it asks.
+    /// Ends it by a DISCONNECT with this reason and description (RFC 4253 section 11.1), which is appended to `out`.
+    ///
+    /// # Errors
+    ///
+    /// As [`Refused`] says.
+    pub fn disconnect(&mut self, reason: u32, description: &str, out: &mut Vec<u8>) -> Result<(), Refused> {
+        let Server { parts, talk } = self;
+        parts.lend(|input| talk.disconnect(input, reason, description, out))
+    }
+
+    /// How it stands.
     #[must_use]
-    pub fn end(&self) -> End {
-        self.talk.end
+    pub fn stands(&self) -> &Stands {
+        &self.talk.stands
     }
 
-    /// What it has received and not used, where it has ended: for the [`Link`] of a server that is authenticated.
+    /// What it has received and not used.
     #[must_use]
     pub fn left(&self) -> &[u8] {
-        self.talk.left()
+        &self.talk.left
     }
 
     /// The session of an authenticated server, with 32 random bytes that served nothing else; else none.
     #[must_use]
     pub fn into_link(self, padding_seed: [u8; 32]) -> Option<Link> {
-        (self.talk.end == End::Authenticated).then(|| Link::new(self.talk.record, padding_seed))
+        self.talk.into_link(padding_seed)
     }
 }
 
@@ -551,4 +627,19 @@ pub fn public_key(private_key: &[u8; 32]) -> Option<Vec<u8>> {
     let mut room = [0; 64];
     let answer = door::public_key(private_key, &mut room);
     (answer.status == 0).then(|| room[..answer.len].to_vec())
+}
+
+/// The 32 bytes of the private key in the text of a file as `ssh-keygen -t ed25519` writes it, without a passphrase.
+///
+/// # Errors
+///
+/// As [`Refused`] says.
+pub fn read_identity(text: &str) -> Result<[u8; 32], Refused> {
+    let mut key = [0; 32];
+    let answer = door::read_identity(text.as_bytes(), &mut key);
+    match answer.status {
+        0 => Ok(key),
+        12 => Err(Refused::Identity(answer.fault)),
+        _ => Err(Refused::Memory),
+    }
 }

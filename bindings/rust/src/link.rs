@@ -1,6 +1,6 @@
 //! The session that goes on.
 
-use crate::door;
+use crate::door::{self, Secret};
 use std::error::Error;
 use std::fmt;
 use std::ops::Range;
@@ -31,17 +31,17 @@ impl fmt::Display for LinkFault {
 
 impl Error for LinkFault {}
 
-/// Both directions of a session, and what was agreed.
+/// Both directions of a session, and what was agreed. It has keys, and overwrites them when it is dropped.
 pub struct Link {
-    record: Vec<u8>,
-    padding_seed: [u8; 32],
+    record: Secret,
+    padding_seed: Secret,
     fields: Vec<Range<usize>>,
 }
 
 impl Link {
-    pub(crate) fn new(record: Vec<u8>, padding_seed: [u8; 32]) -> Link {
-        let fields = fields_of(&record);
-        Link { record, padding_seed, fields }
+    pub(crate) fn new(record: Secret, padding_seed: [u8; 32]) -> Link {
+        let fields = fields_of(&record.0);
+        Link { record, padding_seed: Secret::copy(&padding_seed), fields }
     }
 
     /// Appends to `out` the packet of a payload.
@@ -51,8 +51,8 @@ impl Link {
     /// As [`LinkFault`] says; nothing has changed then.
     pub fn seal(&mut self, payload: &[u8], out: &mut Vec<u8>) -> Result<(), LinkFault> {
         let mut room = vec![0; 35000];
-        let state = &mut self.record[self.fields[1].clone()];
-        let answer = door::seal(state, &self.padding_seed, payload, &mut room);
+        let state = &mut self.record.0[self.fields[1].clone()];
+        let answer = door::seal(state, &self.padding_seed.0, payload, &mut room);
         fault_of(answer.status, answer.fault)?;
         out.extend_from_slice(&room[..answer.len]);
         Ok(())
@@ -66,7 +66,7 @@ impl Link {
     /// As [`LinkFault`] says.
     pub fn open(&mut self, received: &[u8]) -> Result<Option<(Vec<u8>, usize)>, LinkFault> {
         let mut room = vec![0; 35000];
-        let state = &mut self.record[self.fields[0].clone()];
+        let state = &mut self.record.0[self.fields[0].clone()];
         let answer = door::open(state, received, &mut room);
         if answer.status == 8 {
             return Ok(None);
@@ -109,7 +109,7 @@ impl Link {
     /// The field of this number of the record, as `include/rezdolin.h` numbers them.
     #[must_use]
     pub fn field(&self, number: usize) -> &[u8] {
-        self.fields.get(number).map_or(&[], |place| &self.record[place.clone()])
+        self.fields.get(number).map_or(&[], |place| &self.record.0[place.clone()])
     }
 }
 

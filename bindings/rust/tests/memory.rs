@@ -1,62 +1,80 @@
 //! A client and a server meet in memory.
 
 use rezdolin::{
-    Client, ClientParts, Draws, End, Fed, LinkFault, PeerReading, Proof, Question, Refused, Server, ServerParts,
-    public_key,
+    Answer, Client, ClientParts, Draws, HostKey, LinkFault, PeerReading, Proof, PublicKey, Question, Refused, Server,
+    ServerParts, Stands, public_key, read_identity,
 };
 
 const HOST: [u8; 32] = [9; 32];
 const USER: [u8; 32] = [8; 32];
+const NO_KEYS: Stands = Stands::Failed { fault: 14, detail: 0 };
 
 fn draws(seed: u8) -> Draws {
     Draws { cookie: [seed; 16], exchange_random: [seed + 1; 32], padding_seed: [seed + 2; 32] }
 }
 
-fn client(plan: Vec<Proof>) -> Client {
-    Client::new(draws(1), "al", plan, vec![public_key(&HOST).unwrap()])
+fn client_parts(plan: Vec<Proof>) -> ClientParts {
+    ClientParts::new(draws(1), "al", plan, vec![public_key(&HOST).unwrap()])
 }
 
-fn server() -> Server {
+fn server_parts() -> ServerParts {
     let key = Proof::Key(public_key(&USER).unwrap());
-    Server::new(draws(5), HOST, vec![("al".into(), key), ("al".into(), Proof::Password(b"secret".to_vec()))])
+    let users = vec![("al".into(), key), ("al".into(), Proof::Password(b"secret".to_vec()))];
+    ServerParts::new(draws(5), HostKey::Here(HOST), users)
 }
 
-/// Both talk, by pieces of at most this many bytes, until neither has more to send. Answers what the client has left.
-fn meet(client: &mut Client, server: &mut Server, size: usize) -> Result<Vec<u8>, Refused> {
+fn password() -> Proof {
+    Proof::Password(b"secret".to_vec())
+}
+
+/// Both talk, by pieces of at most this many bytes, until neither has more to send; what they ask is decided so.
+fn meet_deciding(
+    client: ClientParts,
+    server: ServerParts,
+    size: usize,
+    decide: impl Fn(&Question) -> Answer<'static>,
+) -> (Client, Server) {
     let (mut to_server, mut to_client) = (Vec::new(), Vec::new());
-    client.feed(b"", &mut to_server)?;
-    server.feed(b"", &mut to_client)?;
+    let mut client = Client::begin(client, &mut to_server).unwrap();
+    let mut server = Server::begin(server, &mut to_client).unwrap();
     while !(to_server.is_empty() && to_client.is_empty()) {
         for piece in std::mem::take(&mut to_server).chunks(size) {
-            server.feed(piece, &mut to_client)?;
+            server.step(piece, &mut to_client).unwrap();
+            while let Stands::Asks(question) = server.stands().clone() {
+                server.answer(decide(&question), &mut to_client).unwrap();
+            }
         }
         for piece in std::mem::take(&mut to_client).chunks(size) {
-            client.feed(piece, &mut to_server)?;
+            client.step(piece, &mut to_server).unwrap();
+            while let Stands::Asks(question) = client.stands().clone() {
+                client.answer(decide(&question), &mut to_server).unwrap();
+            }
         }
     }
-    Ok(to_client)
+    (client, server)
+}
+
+/// The same of sides that ask nothing.
+fn meet(client: ClientParts, server: ServerParts, size: usize) -> (Client, Server) {
+    meet_deciding(client, server, size, |question| panic!("{question:?}"))
+}
+
+fn assert_authenticated(sides: &(Client, Server)) {
+    assert_eq!((sides.0.stands(), sides.1.stands()), (&Stands::Authenticated, &Stands::Authenticated));
 }
 
 #[test]
 fn authenticates_by_a_key_and_by_a_password() {
-    for proof in [Proof::Key(USER.to_vec()), Proof::Password(b"secret".to_vec())] {
-        let (mut client, mut server) = (client(vec![proof]), server());
-        meet(&mut client, &mut server, 1000).unwrap();
-        assert_eq!((client.end(), server.end()), (End::Authenticated, End::Authenticated));
+    for proof in [Proof::Key(USER.to_vec()), password()] {
+        for size in [1, 11, 1000] {
+            assert_authenticated(&meet(client_parts(vec![proof.clone()]), server_parts(), size));
+        }
     }
 }
 
 #[test]
-fn pieces_change_nothing() {
-    let (mut client, mut server) = (client(vec![Proof::Password(b"secret".to_vec())]), server());
-    meet(&mut client, &mut server, 11).unwrap();
-    assert_eq!((client.end(), server.end()), (End::Authenticated, End::Authenticated));
-}
-
-#[test]
 fn a_session_goes_on() {
-    let (mut client, mut server) = (client(vec![Proof::Key(USER.to_vec())]), server());
-    meet(&mut client, &mut server, 1000).unwrap();
+    let (client, server) = meet(client_parts(vec![Proof::Key(USER.to_vec())]), server_parts(), 1000);
     let (mut ours, mut theirs) = (client.into_link([3; 32]).unwrap(), server.into_link([4; 32]).unwrap());
     assert_eq!(ours.session_identifier(), theirs.session_identifier());
     assert_eq!((ours.user(), ours.peer_version(), ours.is_strict()), (&b"al"[..], &b"SSH-2.0-rezdolin"[..], true));
@@ -75,101 +93,193 @@ fn a_session_goes_on() {
 
 #[test]
 fn refusals_are_told() {
-    let (mut client, mut server) = (client(vec![Proof::Password(b"wrong".to_vec())]), server());
-    meet(&mut client, &mut server, 1000).unwrap();
-    assert_eq!((client.end(), server.end()), (End::Failed { fault: 14, detail: 0 }, End::Closed(14)));
+    let wrong = vec![Proof::Password(b"wrong".to_vec())];
+    let (client, server) = meet(client_parts(wrong), server_parts(), 1000);
+    assert_eq!((client.stands(), server.stands()), (&NO_KEYS, &Stands::Closed(14)));
     assert!(client.into_link([3; 32]).is_none());
-    let (mut client, mut server) = (Client::new(draws(1), "al", vec![Proof::None], Vec::new()), self::server());
-    meet(&mut client, &mut server, 1000).unwrap();
-    assert_eq!(client.end(), End::Failed { fault: 10, detail: 0 });
+    let parts = ClientParts::new(draws(1), "al", vec![Proof::None], Vec::new());
+    let (client, _) = meet(parts, server_parts(), 1000);
+    assert_eq!(client.stands(), &Stands::Failed { fault: 10, detail: 0 });
+}
+
+fn refusal(parts: ClientParts) -> Option<Refused> {
+    Client::begin(parts, &mut Vec::new()).err()
+}
+
+fn server_refusal(parts: ServerParts) -> Option<Refused> {
+    Server::begin(parts, &mut Vec::new()).err()
 }
 
 #[test]
 fn parts_are_refused() {
-    let mut parts = ClientParts::new(draws(1), "al", vec![], vec![]);
+    let mut parts = client_parts(vec![]);
     parts.side.kex = String::new();
-    assert_eq!(Client::from(parts).feed(b"", &mut Vec::new()), Err(Refused::Config(1)));
-    let mut parts = ServerParts::new(draws(5), HOST, vec![]);
+    assert_eq!(refusal(parts), Some(Refused::Config(1)));
+    let mut parts = server_parts();
     parts.tries = 21;
-    assert_eq!(Server::from(parts).feed(b"", &mut Vec::new()), Err(Refused::Config(9)));
-    let mut parts = ClientParts::new(draws(1), "al", vec![], vec![]);
+    assert_eq!(server_refusal(parts), Some(Refused::Config(9)));
+    let mut parts = client_parts(vec![]);
     parts.side.ciphers = "chacha20-poly1305@openssh.com,aes128-ctr".into();
-    assert_eq!(Client::from(parts).feed(b"", &mut Vec::new()), Err(Refused::Config(13)));
+    assert_eq!(refusal(parts), Some(Refused::Config(13)));
     for len in [0, 31, 33, 64] {
-        let mut client = Client::new(draws(1), "al", vec![Proof::Key(vec![9; len])], vec![]);
-        assert_eq!(client.feed(b"", &mut Vec::new()), Err(Refused::Config(14)));
+        assert_eq!(refusal(client_parts(vec![Proof::Key(vec![9; len])])), Some(Refused::Config(14)));
     }
+}
+
+/// A private key as an agent is given it: the public key, both halves and a comment.
+fn in_an_agent_s_form(private_key: [u8; 32]) -> Vec<u8> {
+    let mut key = public_key(&private_key).unwrap();
+    let public = key[19..].to_vec();
+    for field in [&[&private_key[..], &public[..]].concat()[..], b"al@host"] {
+        key.extend(u32::try_from(field.len()).unwrap().to_be_bytes());
+        key.extend(field);
+    }
+    key
+}
+
+#[test]
+fn keys_elsewhere_want_one_who_is_asked() {
+    let signed = |blob| PublicKey { algorithm: "ssh-ed25519".into(), blob };
+    let plan = || vec![Proof::Signed(signed(public_key(&USER).unwrap()))];
+    assert_eq!(refusal(client_parts(plan())), Some(Refused::Unreadable));
+    assert_eq!(refusal(ClientParts::asking(draws(1), "al", plan())), None);
+    for private in [USER.to_vec(), in_an_agent_s_form(USER)] {
+        let mistaken = vec![Proof::Signed(signed(private.clone()))];
+        assert_eq!(refusal(ClientParts::asking(draws(1), "al", mistaken)), Some(Refused::Config(14)));
+        let mistaken = HostKey::Elsewhere(signed(private));
+        assert_eq!(server_refusal(ServerParts::asking(draws(5), mistaken)), Some(Refused::Config(14)));
+    }
+    let host_key = || HostKey::Elsewhere(signed(public_key(&HOST).unwrap()));
+    assert_eq!(server_refusal(ServerParts::new(draws(5), host_key(), vec![])), Some(Refused::Unreadable));
+    assert_eq!(server_refusal(ServerParts::asking(draws(5), host_key())), None);
+    // without a signature
+    let decide = |question: &Question| match question {
+        Question::Signature { .. } => Answer::NoSignature,
+        _ => Answer::Yes,
+    };
+    let mut client = ClientParts::asking(draws(1), "al", plan());
+    client.plan.push(password());
+    assert_authenticated(&meet_deciding(client, server_parts(), 1000, decide));
+    let server = ServerParts::asking(draws(5), host_key());
+    let (client, server) = meet_deciding(client_parts(vec![password()]), server, 1000, decide);
+    assert_eq!((client.stands(), server.stands()), (&Stands::Closed(3), &Stands::Failed { fault: 9, detail: 0 }));
 }
 
 #[test]
 fn version_lines_are_read_as_deployed_or_by_the_letter() {
     let read = |line: &[u8], reading| {
-        let mut parts = (ClientParts::new(draws(1), "al", vec![], vec![]), ServerParts::new(draws(5), HOST, vec![]));
-        (parts.0.side.reading, parts.1.side.reading) = (reading, reading);
-        let (mut client, mut server) = (Client::from(parts.0), Server::from(parts.1));
-        client.feed(line, &mut Vec::new()).unwrap();
-        server.feed(line, &mut Vec::new()).unwrap();
-        (client.end(), server.end())
+        let (mut client, mut server) = (client_parts(vec![]), server_parts());
+        (client.side.reading, server.side.reading) = (reading, reading);
+        let mut client = Client::begin(client, &mut Vec::new()).unwrap();
+        let mut server = Server::begin(server, &mut Vec::new()).unwrap();
+        client.step(line, &mut Vec::new()).unwrap();
+        server.step(line, &mut Vec::new()).unwrap();
+        (client.stands().clone(), server.stands().clone())
     };
-    let refused = End::Failed { fault: 1, detail: 0 };
-    assert_eq!(read(b"SSH-2.0-a-b\r\n", PeerReading::default()), (End::Open, End::Open));
-    assert_eq!(read(b"SSH-2.0-a-b\r\n", PeerReading::Strict), (refused, refused));
-    assert_eq!(read(b"SSH-1.99-a\r\n", PeerReading::Deployed), (End::Open, refused));
-    assert_eq!(read(b"SSH-2.0-a\r\n", PeerReading::Strict), (End::Open, End::Open));
+    let refused = || Stands::Failed { fault: 1, detail: 0 };
+    assert_eq!(read(b"SSH-2.0-a-b\r\n", PeerReading::default()), (Stands::Open, Stands::Open));
+    assert_eq!(read(b"SSH-2.0-a-b\r\n", PeerReading::Strict), (refused(), refused()));
+    assert_eq!(read(b"SSH-1.99-a\r\n", PeerReading::Deployed), (Stands::Open, refused()));
+    assert_eq!(read(b"SSH-2.0-a\r\n", PeerReading::Strict), (Stands::Open, Stands::Open));
 }
 
 #[test]
 fn entries_that_let_anybody_in_are_refused() {
     let refuses = |user: &str, proof| {
         let users = vec![("al".into(), Proof::Password(b"x".to_vec())), (user.into(), proof)];
-        assert_eq!(Server::new(draws(5), HOST, users).feed(b"", &mut Vec::new()), Err(Refused::Unreadable));
+        let parts = ServerParts::new(draws(5), HostKey::Here(HOST), users);
+        assert_eq!(server_refusal(parts), Some(Refused::Unreadable));
     };
     refuses("al", Proof::Password(Vec::new()));
     refuses("al", Proof::Key(Vec::new()));
-    refuses("", Proof::Password(b"secret".to_vec()));
+    refuses("", password());
     refuses("", Proof::None);
-    let mut client = Client::new(draws(1), "al", vec![Proof::None], vec![public_key(&HOST).unwrap()]);
-    let mut server = Server::new(draws(5), HOST, vec![("al".into(), Proof::None)]);
-    meet(&mut client, &mut server, 1000).unwrap();
-    assert_eq!((client.end(), server.end()), (End::Authenticated, End::Authenticated));
-}
-
-/// Both ask and talk until neither has more to send; the client trusts the host key, the server decides so.
-fn meet_asking(client: &mut Client, server: &mut Server, trusts: bool, decide: impl Fn(&Question) -> bool) {
-    let (mut to_server, mut to_client) = (Vec::new(), Vec::new());
-    client.feed(b"", &mut to_server).unwrap();
-    server.feed(b"", &mut to_client).unwrap();
-    while !(to_server.is_empty() && to_client.is_empty()) {
-        let mut fed = server.feed(&std::mem::take(&mut to_server), &mut to_client).unwrap();
-        while let Fed::Asks(question) = fed {
-            fed = server.answer(decide(&question), &mut to_client).unwrap();
-        }
-        if let Fed::Asks(question) = client.feed(&std::mem::take(&mut to_client), &mut to_server).unwrap() {
-            let key = public_key(&HOST).unwrap();
-            assert_eq!(question, Question::HostKey { algorithm: b"ssh-ed25519".to_vec(), key });
-            client.answer(trusts, &mut to_server).unwrap();
-        }
-    }
+    let server = ServerParts::new(draws(5), HostKey::Here(HOST), vec![("al".into(), Proof::None)]);
+    assert_authenticated(&meet(client_parts(vec![Proof::None]), server, 1000));
 }
 
 #[test]
 fn asks_and_goes_on() {
-    let is_al = |question: &Question| match question {
-        Question::User { user, proof: Proof::Key(key), .. } => user == b"al" && *key == public_key(&USER).unwrap(),
-        Question::User { user, proof: Proof::Password(password), .. } => user == b"al" && password == b"secret",
-        _ => false,
+    let key = public_key(&HOST).unwrap();
+    let decide = |question: &Question| match question {
+        Question::HostKey { key: shown, .. } => (*shown == key).into(),
+        Question::User { user, proof: Proof::Key(key), .. } => {
+            (user == b"al" && *key == public_key(&USER).unwrap()).into()
+        }
+        Question::User { user, proof: Proof::Password(password), .. } => {
+            (user == b"al" && password == b"secret").into()
+        }
+        _ => Answer::No,
     };
-    for proof in [Proof::Key(USER.to_vec()), Proof::Password(b"secret".to_vec())] {
-        let mut client = Client::asking(draws(1), "al", vec![Proof::None, proof]);
-        let mut server = Server::asking(draws(5), HOST);
-        meet_asking(&mut client, &mut server, true, is_al);
-        assert_eq!((client.end(), server.end()), (End::Authenticated, End::Authenticated));
+    let host_key = || HostKey::Here(HOST);
+    for size in [1, 30, 1000] {
+        for proof in [Proof::Key(USER.to_vec()), password()] {
+            let client = ClientParts::asking(draws(1), "al", vec![Proof::None, proof]);
+            let server = ServerParts::asking(draws(5), host_key());
+            assert_authenticated(&meet_deciding(client, server, size, decide));
+        }
     }
-    let (mut client, mut server) = (Client::asking(draws(1), "al", vec![Proof::None]), Server::asking(draws(5), HOST));
-    meet_asking(&mut client, &mut server, true, |_| false);
-    assert_eq!((client.end(), server.end()), (End::Failed { fault: 14, detail: 0 }, End::Closed(14)));
-    let (mut client, mut server) = (Client::asking(draws(1), "al", vec![]), Server::asking(draws(5), HOST));
-    meet_asking(&mut client, &mut server, false, |_| false);
-    assert_eq!(client.end(), End::Failed { fault: 10, detail: 0 });
+    let client = ClientParts::asking(draws(1), "al", vec![Proof::None]);
+    let (client, server) = meet_deciding(client, ServerParts::asking(draws(5), host_key()), 1000, decide);
+    assert_eq!((client.stands(), server.stands()), (&NO_KEYS, &Stands::Closed(14)));
+    let client = ClientParts::asking(draws(1), "al", vec![]);
+    let server = ServerParts::asking(draws(5), host_key());
+    let (mut client, _) = meet_deciding(client, server, 1000, |_| Answer::No);
+    assert_eq!(client.stands(), &Stands::Failed { fault: 10, detail: 0 });
     assert_eq!(client.answer(true, &mut Vec::new()), Err(Refused::Unasked));
+}
+
+/// A client that asks about the host key, and what it sends then.
+fn asking() -> (Client, Server) {
+    let (mut to_server, mut to_client) = (Vec::new(), Vec::new());
+    let mut client = Client::begin(ClientParts::asking(draws(1), "al", vec![password()]), &mut to_server).unwrap();
+    let mut server = Server::begin(server_parts(), &mut to_client).unwrap();
+    while !matches!(client.stands(), Stands::Asks(_)) {
+        server.step(&std::mem::take(&mut to_server), &mut to_client).unwrap();
+        client.step(&std::mem::take(&mut to_client), &mut to_server).unwrap();
+    }
+    (client, server)
+}
+
+#[test]
+fn waits_for_its_answer_in_another_thread() {
+    let (mut client, mut server) = asking();
+    let (question, mut out) = (client.stands().clone(), Vec::new());
+    assert!(!client.left().is_empty());
+    let left = client.left().len();
+    client.step(b"", &mut out).unwrap();
+    assert_eq!((client.stands(), out.len(), client.left().len()), (&question, 0, left));
+    assert_eq!(client.answer(Answer::Signature(b"signature"), &mut out), Err(Refused::Unasked));
+    assert_eq!(client.answer(Answer::NoSignature, &mut out), Err(Refused::Unasked));
+    assert_eq!(client.answer(Answer::Signature(b""), &mut out), Err(Refused::Unreadable));
+    assert_eq!((client.stands(), out.len(), client.left().len()), (&question, 0, left));
+    let (client, server) = std::thread::spawn(move || {
+        client.answer(true, &mut out).unwrap();
+        let mut back = Vec::new();
+        while !out.is_empty() {
+            server.step(&std::mem::take(&mut out), &mut back).unwrap();
+            client.step(&std::mem::take(&mut back), &mut out).unwrap();
+        }
+        (client, server)
+    })
+    .join()
+    .unwrap();
+    assert_authenticated(&(client, server));
+}
+
+#[test]
+fn disconnects() {
+    let (mut client, mut server) = asking();
+    let mut out = Vec::new();
+    client.disconnect(11, "going", &mut out).unwrap();
+    server.step(&out, &mut Vec::new()).unwrap();
+    assert_eq!((client.stands(), server.stands()), (&Stands::Disconnected(11), &Stands::Closed(11)));
+    assert_eq!(client.disconnect(11, "", &mut out), Err(Refused::Ended));
+    assert_eq!(client.answer(true, &mut out), Err(Refused::Unasked));
+}
+
+#[test]
+fn a_text_that_is_no_key() {
+    assert_eq!(read_identity(""), Err(Refused::Identity(1)));
+    assert_eq!(read_identity("ssh-ed25519 AAAA al"), Err(Refused::Identity(2)));
 }

@@ -1,5 +1,6 @@
-pub mod AnswerLemmas
-pub mod AskedTold
+pub mod FrameLemmas
+pub mod StepLemmas
+pub mod ChainLemmas
 pub mod DirectionLemmas
 pub mod RecordLemmas
-pub mod Told
+pub mod PartsLemmas

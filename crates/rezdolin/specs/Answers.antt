@@ -1,6 +1,6 @@
 -- Ends and refusals as numbers.
 
-use Rattle.std.specs.Prelude.{◌≡◌, ◌≢◌, ℕ}
+use Rattle.std.specs.Prelude.{ℕ, length}
 use Rattle.sshneg.specs.declared.choice.NoCommon.{NoCommon}
 use Rattle.sshneg.specs.declared.choice.NoCommon.TheVariants as field
 use Rattle.sshcore.specs.declared.config_fault.ConfigFault.TheVariants as config
@@ -9,10 +9,14 @@ use Rattle.sshcore.specs.declared.end.Fault.TheVariants as fault
 use Rattle.sshcore.specs.ConfigRules.{rule_number}
 use Rattle.sshcore.specs.EndData.{Authenticated, Closed, Disconnected, EndData, Failed, Open}
 use Rattle.rezdolin.specs.declared.answers.EndNumbers.{EndNumbers}
-use Rattle.rezdolin.specs.declared.answers.EndpointAnswer.{EndpointAnswer}
-use Rattle.rezdolin.specs.declared.answers.TheConstants.{END_AUTHENTICATED, END_CLOSED, END_DISCONNECTED, END_FAILED, END_OPEN, STATUS_ROOM}
+use Rattle.rezdolin.specs.declared.answers.StepAnswer.{StepAnswer}
+use Rattle.rezdolin.specs.declared.answers.TheConstants.{END_AUTHENTICATED, END_CLOSED, END_DISCONNECTED, END_FAILED, END_OPEN, STATUS_ANSWERED, STATUS_CONFIG, STATUS_MEMORY, STATUS_PARTS, STATUS_RECORD, STATUS_ROOM, STATUS_UNASKED, STATUS_UNREADABLE}
 use Rattle.rezdolin.specs.declared.parts.NoConfig.{NoConfig}
 use Rattle.rezdolin.specs.declared.parts.NoConfig.TheVariants as no
+use Rattle.rezdolin.specs.declared.steps.Came.{Came}
+use Rattle.rezdolin.specs.declared.steps.NoStep.{NoStep}
+use Rattle.rezdolin.specs.declared.steps.NoStep.TheVariants as step
+use Rattle.rezdolin.specs.declared.texts.InputFault.TheVariants as input
 
 abbrev pub three : ℕ → ℕ → ℕ → EndNumbers
 three e f d = record { end = e; fault = f; detail = d }
@@ -56,12 +60,46 @@ end_numbers (Failed f) = fault_numbers f
 end_numbers (Closed reason) = three END_CLOSED 0 reason
 end_numbers (Disconnected reason) = three END_DISCONNECTED 0 reason
 
--- the parts are refused for another cause than running out of memory, and this is its number
-abbrev pub IsPartsFault : NoConfig → ℕ → Type 0
-IsPartsFault (no.Input f) number = ⊥
-IsPartsFault (no.Parts code) number = (code ≢ config.Memory) × (number ≡ rule_number code)
-IsPartsFault (no.Unfit n) number = number ≡ n
+-- an answer without an endpoint: why, and of refused parts the number
+abbrev pub no_endpoint : ℕ → ℕ → StepAnswer
+no_endpoint why number =
+    record { status = why; config = number; end = END_OPEN; fault = 0; detail = 0; used = 0; sent_len = 0; record_len = 0; told_len = 0 }
 
--- a session or a question has no room: how much they have to have, and nothing else
-abbrev pub no_room : ℕ → ℕ → EndpointAnswer
-no_room s q = record { status = STATUS_ROOM; config = 0; end = END_OPEN; fault = 0; detail = 0; used = 0; sent = 0; written = 0; session_len = s; question_len = q }
+-- what a room has to have, and nothing else
+abbrev pub no_room : ℕ → ℕ → ℕ → StepAnswer
+no_room sent bytes told =
+    record { status = STATUS_ROOM; config = 0; end = END_OPEN; fault = 0; detail = 0; used = 0; sent_len = sent; record_len = bytes; told_len = told }
+
+-- the answer where there is no config
+abbrev pub no_config : NoConfig → StepAnswer
+no_config (no.Input input.Unreadable) = no_endpoint STATUS_UNREADABLE 0
+no_config (no.Input input.Memory) = no_endpoint STATUS_MEMORY 0
+no_config (no.Parts config.Memory) = no_endpoint STATUS_MEMORY 0
+no_config (no.Parts code) = no_endpoint STATUS_CONFIG (rule_number code)
+no_config (no.Unfit number) = no_endpoint STATUS_CONFIG number
+
+-- the answer where a call doesn't go on
+abbrev pub no_step : NoStep → StepAnswer
+no_step step.Unreadable = no_endpoint STATUS_UNREADABLE 0
+no_step (step.Config f) = no_config f
+no_step step.Record = no_endpoint STATUS_RECORD 0
+no_step step.Parts = no_endpoint STATUS_PARTS 0
+no_step step.Unasked = no_endpoint STATUS_UNASKED 0
+no_step step.Memory = no_endpoint STATUS_MEMORY 0
+
+-- the answer of an endpoint that has come to this
+abbrev pub step_answer : Came → StepAnswer
+step_answer came = record {
+  status = STATUS_ANSWERED;
+  config = 0;
+  end = came.end.end;
+  fault = came.end.fault;
+  detail = came.end.detail;
+  used = came.used;
+  sent_len = length came.sent.items;
+  record_len = length came.record.items;
+  told_len = length came.told.items;
+}
+
+abbrev pub lacks_room : Came → StepAnswer
+lacks_room came = no_room (length came.sent.items) (length came.record.items) (length came.told.items)

@@ -1,6 +1,6 @@
 -- What a program puts in, as configs have it.
 
-use Rattle.std.specs.Prelude.{ℕ, ◌==◌, if◌then◌else◌, List, [], ◌∷◌, codes, length, map, Option, None, Some}
+use Rattle.std.specs.Prelude.{◌≡◌, ◌⊎◌, ℕ, ◌==◌, if◌then◌else◌, List, [], ◌∷◌, codes, length, map, Option, None, Some}
 use Rattle.std.specs.List.{AllByRecursion, slice_split}
 use Rattle.std.specs.Str.{IsUtf8}
 use Rattle.sshcore.specs.declared.config_parts.PeerReading.{PeerReading}
@@ -11,7 +11,7 @@ use Rattle.rezdolin.specs.declared.inputs.ClientInput.{ClientInput}
 use Rattle.rezdolin.specs.declared.inputs.HostKeyInput.{HostKeyInput}
 use Rattle.rezdolin.specs.declared.inputs.ServerInput.{ServerInput}
 use Rattle.rezdolin.specs.declared.inputs.SideInput.{SideInput}
-use Rattle.rezdolin.specs.declared.inputs.TheConstants.{IGNORED_LIMIT, METHOD_NONE, METHOD_PASSWORD, READING_STRICT, STRICT_YES}
+use Rattle.rezdolin.specs.declared.inputs.TheConstants.{IGNORED_LIMIT, METHOD_NONE, METHOD_PASSWORD, METHOD_SIGNED, READING_STRICT, STRICT_YES}
 use Rattle.rezdolin.specs.Readable.{IsMethod}
 
 -- no bytes are nothing
@@ -58,7 +58,7 @@ abbrev pub attempt_by : AttemptInput → AttemptData
 attempt_by attempt = record { user = attempt.user.now; service = attempt.service.now; proving = proving_by attempt }
 
 abbrev pub host_key_by : HostKeyInput → HostKeyData
-host_key_by key = record { algorithm = key.algorithm.now; secret = key.private_key.now }
+host_key_by key = record { algorithm = key.algorithm.now; secret = key.key.now }
 
 -- the config of a client
 abbrev pub client_of : ClientInput → ClientData
@@ -101,7 +101,7 @@ pub record AreAttemptTexts (attempt : AttemptInput) : Type 0 where
   pub user : IsUtf8 attempt.user.now
   pub service : IsUtf8 attempt.service.now
   pub algorithm : IsUtf8 attempt.algorithm.now
-  pub method : IsMethod attempt.method
+  pub method : IsMethod attempt.method ⊎ (attempt.method ≡ METHOD_SIGNED)
 
 pub record AreClientTexts (client : ClientInput) : Type 0 where
   pub side : AreSideTexts client.side

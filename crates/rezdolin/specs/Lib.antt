@@ -5,6 +5,12 @@ pub mod Trust
 pub mod Answers
 pub mod Records
 pub mod Directions
-pub mod Talks
-pub mod Asks
+pub mod Questions
+pub mod PartsText
+pub mod Frames
+pub mod Endpoints
 pub mod Carried
+pub mod Steps
+pub mod StepsView
+pub mod PublicKeys
+pub mod Chains

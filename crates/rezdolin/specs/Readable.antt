@@ -1,12 +1,13 @@
 -- The numbers and entries of a program that can be read.
 
-use Rattle.std.specs.Prelude.{◌≡◌, ◌≢◌, ◌⊎◌, ℕ, ◌≤◌, []}
+use Rattle.std.specs.Prelude.{◌≡◌, ◌≢◌, ◌⊎◌, ℕ, ◌≤◌, ◌==◌, Bool, true, []}
 use Rattle.std.specs.List.{AllByRecursion}
 use Rattle.rezdolin.specs.declared.inputs.AttemptInput.{AttemptInput}
 use Rattle.rezdolin.specs.declared.inputs.ClientInput.{ClientInput}
+use Rattle.rezdolin.specs.declared.inputs.HostKeyInput.{HostKeyInput}
 use Rattle.rezdolin.specs.declared.inputs.ServerInput.{ServerInput}
 use Rattle.rezdolin.specs.declared.inputs.UserInput.{UserInput}
-use Rattle.rezdolin.specs.declared.inputs.TheConstants.{METHOD_NONE, METHOD_PASSWORD, METHOD_PUBLICKEY, READING_DEPLOYED, READING_STRICT, STRICT_NO, STRICT_YES}
+use Rattle.rezdolin.specs.declared.inputs.TheConstants.{KEY_ELSEWHERE, KEY_HERE, METHOD_NONE, METHOD_PASSWORD, METHOD_PUBLICKEY, METHOD_SIGNED, READING_DEPLOYED, READING_STRICT, STRICT_NO, STRICT_YES}
 
 -- a side tells whether it is willing to be strict: the number isn't left out
 abbrev pub IsStrictness : ℕ → Type 0
@@ -20,9 +21,9 @@ IsPeerReading number = (number ≡ READING_DEPLOYED) ⊎ (number ≡ READING_STR
 abbrev pub IsMethod : ℕ → Type 0
 IsMethod number = (number ≡ METHOD_NONE) ⊎ ((number ≡ METHOD_PASSWORD) ⊎ (number ≡ METHOD_PUBLICKEY))
 
--- an attempt has a method, and a yes or no
-pub record IsAttempt (attempt : AttemptInput) : Type 0 where
-  pub method : IsMethod attempt.method
+-- an attempt has a method, which asks for a signature only where the client asks, and a yes or no
+pub record IsAttempt (asks : Bool) (attempt : AttemptInput) : Type 0 where
+  pub method : IsMethod attempt.method ⊎ ((attempt.method ≡ METHOD_SIGNED) × (asks ≡ true))
   pub ask : attempt.ask ≤ 1
 
 -- An entry has a user, and what its method wants: no bytes where the user is accepted without a proof, and else some.
@@ -32,17 +33,22 @@ pub record IsEntry (entry : UserInput) : Type 0 where
   pub unproved : entry.method ≡ METHOD_NONE → entry.proof.now ≡ []
   pub proved : entry.method ≢ METHOD_NONE → entry.proof.now ≢ []
 
+-- a host key is here, or where the server asks elsewhere
+abbrev pub IsPlaced : Bool → HostKeyInput → Type 0
+IsPlaced asks key = (key.place ≡ KEY_HERE) ⊎ ((key.place ≡ KEY_ELSEWHERE) × (asks ≡ true))
+
 -- a client's numbers
 pub record IsClientRead (client : ClientInput) : Type 0 where
   pub strict : IsStrictness client.side.strict
   pub reading : IsPeerReading client.side.reading
   pub guess : client.guess ≤ 1
   pub asks : client.asks ≤ 1
-  pub plan : AllByRecursion IsAttempt client.plan.now
+  pub plan : AllByRecursion (IsAttempt (client.asks == 1)) client.plan.now
 
 -- a server's numbers, and its entries where they are read
 pub record IsServerRead (server : ServerInput) : Type 0 where
   pub strict : IsStrictness server.side.strict
   pub reading : IsPeerReading server.side.reading
   pub asks : server.asks ≤ 1
+  pub host_keys : AllByRecursion (IsPlaced (server.asks == 1)) server.host_keys.now
   pub users : server.asks ≢ 1 → AllByRecursion IsEntry server.users.now

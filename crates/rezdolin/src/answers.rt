@@ -1,15 +1,15 @@
 //! What the calls answer.
 
-ghost use Rattle.std.specs.Prelude.{◌≡◌, ◌≢◌, ◌≤◌};
+ghost use Rattle.std.specs.Prelude.{◌≡◌, ◌≢◌};
 ghost use Rattle.sshcore.specs.ConfigRules.{rule_number};
 ghost use Rattle.sshcore.specs.EndData.{end_data};
-ghost use Rattle.rezdolin.specs.declared.parts.NoConfig.TheVariants as no;
-ghost use Rattle.rezdolin.specs.declared.texts.InputFault.TheVariants as input;
-ghost use Rattle.rezdolin.specs.Answers.{IsPartsFault, end_numbers, fault_numbers, field_number, no_room};
+ghost use Rattle.rezdolin.specs.Answers.{end_numbers, fault_numbers, field_number, lacks_room, no_config, no_endpoint, no_step, step_answer};
 
 use crate::parts::NoConfig;
+use crate::steps::{Came, NoStep};
 use crate::texts::InputFault;
 use sshcore::{ConfigFault, End, Fault};
+use sshidentity::IdentityFault;
 use sshneg::NoCommon;
 use sshpacket::PacketFault;
 
@@ -25,8 +25,7 @@ pub const STATUS_CONFIG: u32 = 2;
 /// What was put in can't be read.
 pub const STATUS_UNREADABLE: u32 = 3;
 
-/// A room is too small: of a call that makes bytes that of `out`, and nothing has changed; of an endpoint's call that of the
-/// session or of the question.
+/// A room is too small, and nothing has changed: the same call may be made again with more.
 pub const STATUS_ROOM: u32 = 4;
 
 /// The payload has no byte, or more than 32768.
@@ -41,6 +40,18 @@ pub const STATUS_PACKET: u32 = 7;
 /// The packet isn't all there.
 pub const STATUS_MORE: u32 = 8;
 
+/// The record is none that this version of the library can read.
+pub const STATUS_RECORD: u32 = 9;
+
+/// The record was written for other parts than these, or for the other role, as its digest of the parts tells.
+pub const STATUS_PARTS: u32 = 10;
+
+/// Nothing is asked that this answers.
+pub const STATUS_UNASKED: u32 = 11;
+
+/// The text has no private key that can be used.
+pub const STATUS_IDENTITY: u32 = 12;
+
 /// The endpoint goes on.
 pub const END_OPEN: u32 = 0;
 
@@ -53,7 +64,7 @@ pub const END_FAILED: u32 = 2;
 /// The peer sent a DISCONNECT.
 pub const END_CLOSED: u32 = 3;
 
-/// The owner of the endpoint ended it. No call answers it.
+/// The program has told the endpoint to disconnect.
 pub const END_DISCONNECTED: u32 = 4;
 
 /// The endpoint waits for the answer to its question.
@@ -65,15 +76,15 @@ pub const ASKS_HOST_KEY: u32 = 0;
 /// A question of a server: whether a request is successful, or whether the key of a query would do.
 pub const ASKS_USER: u32 = 1;
 
-/// A question for a signature by a key that the suite doesn't hold. No endpoint asks it whose parts were judged.
-pub(crate) const ASKS_SIGNATURE: u32 = 2;
+/// A question for a signature by a key that the library doesn't hold.
+pub const ASKS_SIGNATURE: u32 = 2;
 
-/// What a client or a server answers.
+/// What a call of an endpoint answers. Where its status isn't 0, all else is 0, but for `config`, and of 4 for the three lengths, which
+/// say how much room there has to be.
 #[repr(C)]
 #[derive(Clone, Copy, Debug)]
-pub struct EndpointAnswer {
-    /// One of `STATUS_`, from 0 to 4. Where it isn't 0, all else is 0, but for `config`, and of 4 for `session_len` and
-    /// `question_len`.
+pub struct StepAnswer {
+    /// One of `STATUS_`.
     pub status: u32,
     /// Of refused parts: the number of the refusal, 1 for C1 to 14 for C14; else 0.
     pub config: u32,
@@ -82,19 +93,18 @@ pub struct EndpointAnswer {
     /// Of a failed endpoint: the number of the failure, 1 for F1; else 0.
     pub fault: u32,
     /// Of F5, F6 and F7: the number of the message. Of F8: the field without a choice, 1 to 8 in the order of the
-    /// KEXINIT. Of an endpoint that was closed: the reason. Else 0.
+    /// KEXINIT. Of an endpoint that was closed, or that disconnected: the reason. Else 0.
     pub detail: u32,
-    /// How many of the bytes received were used: all while it is open; where it asks, those up to the end of the packet that
+    /// How many bytes of the piece were used: all while it is open; where it asks, those up to the end of the packet that
     /// asks.
     pub used: usize,
-    /// How many bytes the endpoint sends since it began.
-    pub sent: usize,
-    /// How many of them this call has written to `out`.
-    pub written: usize,
-    /// Of an authenticated endpoint: how many bytes the record of its session has, also where it has no room; else 0.
-    pub session_len: usize,
-    /// Of an endpoint that asks: how many bytes the record of its question has, also where it has no room; else 0.
-    pub question_len: usize,
+    /// How many bytes the endpoint sends: they stand at the front of `out`.
+    pub sent_len: usize,
+    /// How many bytes its record has: they stand at the front of `next`. 0 where it has ended.
+    pub record_len: usize,
+    /// How many bytes stand at the front of `told`: the record of the question of an endpoint that asks, or of the session of an
+    /// authenticated one; else 0.
+    pub told_len: usize,
 }
 
 /// What a call answers that makes bytes.
@@ -103,7 +113,7 @@ pub struct EndpointAnswer {
 pub struct BytesAnswer {
     /// One of `STATUS_`.
     pub status: u32,
-    /// Of what is no packet: the number of the fault, 1 for P1; else 0.
+    /// Of what is no packet: the number of the fault, 1 for P1. Of a text without a private key: why, 1 to 11. Else 0.
     pub fault: u32,
     /// How many of the bytes received were used.
     pub used: usize,
@@ -200,14 +210,23 @@ fn config_number(fault: ConfigFault) -> u32
     }
 }
 
+/// The answer where a call doesn't go on.
+pub(crate) fn no_step(fault: NoStep) -> StepAnswer
+    ensures { result ≡ no_step fault }
+{
+    match fault {
+        NoStep::Unreadable => unanswered(STATUS_UNREADABLE, 0),
+        NoStep::Config(fault) => no_config(fault),
+        NoStep::Record => unanswered(STATUS_RECORD, 0),
+        NoStep::Parts => unanswered(STATUS_PARTS, 0),
+        NoStep::Unasked => unanswered(STATUS_UNASKED, 0),
+        NoStep::Memory => unanswered(STATUS_MEMORY, 0),
+    }
+}
+
 /// The answer where there is no config.
-pub(crate) fn no_config(fault: NoConfig) -> EndpointAnswer
-    ensures config { result.status ≡ STATUS_CONFIG → IsPartsFault fault result.config }
-    ensures unreadable { result.status ≡ STATUS_UNREADABLE → fault ≡ no.Input input.Unreadable }
-    ensures statuses { (1 ≤ result.status) × (result.status ≤ STATUS_UNREADABLE) }
-    ensures unrefused { result.status ≢ STATUS_CONFIG → result.config ≡ 0 }
-    ensures written { result.written ≡ 0 }
-    ensures unasked { result.question_len ≡ 0 }
+fn no_config(fault: NoConfig) -> StepAnswer
+    ensures { result ≡ no_config fault }
 {
     match fault {
         NoConfig::Input(InputFault::Unreadable) => unanswered(STATUS_UNREADABLE, 0),
@@ -219,38 +238,53 @@ pub(crate) fn no_config(fault: NoConfig) -> EndpointAnswer
 }
 
 /// An answer without an endpoint.
-pub(crate) fn unanswered(status: u32, config: u32) -> EndpointAnswer
-    ensures { result ≡ record { status = status; config = config; end = 0; fault = 0; detail = 0; used = 0; sent = 0; written = 0; session_len = 0; question_len = 0 } }
+fn unanswered(status: u32, config: u32) -> StepAnswer
+    ensures { result ≡ no_endpoint status config }
 {
-    EndpointAnswer {
+    StepAnswer {
         status,
         config,
         end: END_OPEN,
         fault: 0,
         detail: 0,
         used: 0,
-        sent: 0,
-        written: 0,
-        session_len: 0,
-        question_len: 0,
+        sent_len: 0,
+        record_len: 0,
+        told_len: 0,
     }
 }
 
-/// The answer of an endpoint whose session or question has no room: how much they have to have.
-pub(crate) fn no_room(session_len: usize, question_len: usize) -> EndpointAnswer
-    ensures { result ≡ no_room session_len question_len }
+/// The answer of an endpoint that has no room: how much of each it has to have.
+pub(crate) fn no_room(came: &Came) -> StepAnswer
+    ensures { result ≡ lacks_room came.now }
 {
-    EndpointAnswer {
+    StepAnswer {
         status: STATUS_ROOM,
         config: 0,
         end: END_OPEN,
         fault: 0,
         detail: 0,
         used: 0,
-        sent: 0,
-        written: 0,
-        session_len,
-        question_len,
+        sent_len: came.sent.len(),
+        record_len: came.record.len(),
+        told_len: came.told.len(),
+    }
+}
+
+/// What a call came to.
+pub(crate) fn step_answer(came: &Came) -> StepAnswer
+    ensures { result ≡ step_answer came.now }
+{
+    StepAnswer {
+        status: STATUS_ANSWERED,
+        config: 0,
+        end: came.end.end,
+        fault: came.end.fault,
+        detail: came.end.detail,
+        used: came.used,
+        sent_len: came.sent.len(),
+        record_len: came.record.len(),
+        told_len: came.told.len(),
     }
 }
 
@@ -267,6 +301,8 @@ pub(crate) enum BytesFault {
     More,
     /// What came is no packet.
     Packet(PacketFault),
+    /// The text has no private key that can be used.
+    Identity(IdentityFault),
     /// There is no room for so many bytes.
     Room(usize),
     /// An allocation failed.
@@ -286,10 +322,28 @@ pub(crate) fn no_bytes(fault: BytesFault) -> BytesAnswer
         BytesFault::Packet(PacketFault::Padding) => bytes_answer(STATUS_PACKET, 2, 0),
         BytesFault::Packet(PacketFault::Empty) => bytes_answer(STATUS_PACKET, 3, 0),
         BytesFault::Packet(PacketFault::Mac) => bytes_answer(STATUS_PACKET, 4, 0),
+        BytesFault::Identity(fault) => bytes_answer(STATUS_IDENTITY, identity_number(fault), 0),
         BytesFault::Room(len) => bytes_answer(STATUS_ROOM, 0, len),
         BytesFault::Packet(PacketFault::Memory) | BytesFault::Memory => {
             bytes_answer(STATUS_MEMORY, 0, 0)
         }
+    }
+}
+
+/// The number of why a text has no private key that can be used.
+fn identity_number(fault: IdentityFault) -> u32 {
+    match fault {
+        IdentityFault::Form => 1,
+        IdentityFault::Public => 2,
+        IdentityFault::OtherForm => 3,
+        IdentityFault::Encrypted => 4,
+        IdentityFault::Rsa => 5,
+        IdentityFault::Ecdsa => 6,
+        IdentityFault::OtherKind => 7,
+        IdentityFault::Several => 8,
+        IdentityFault::Cut => 9,
+        IdentityFault::Halves => 10,
+        IdentityFault::Padding => 11,
     }
 }
 

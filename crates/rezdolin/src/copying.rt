@@ -2,17 +2,7 @@
 
 ghost use Rattle.std.specs.Prelude.{◌≡◌, ◌≤◌, false, length, true};
 ghost use Rattle.rezdolin.specs.Directions.{IsPut};
-ghost use Rattle.rezdolin.specs.Talks.{IsWrittenFrom, emptied};
-
-/// Copies as many of the bytes from `skip` on as there is room for, and answers how many.
-pub(crate) fn copied_from(from: &[u8], skip: usize, out: &mut [u8]) -> usize
-    ensures { IsWrittenFrom from.now skip out.old result out.new }
-{
-    let rest = from.get(skip..).unwrap_or(&[]);
-    let count = rest.len().min(out.len());
-    out[..count].copy_from_slice(&rest[..count]);
-    count
-}
+ghost use Rattle.rezdolin.specs.Steps.{emptied};
 
 /// Makes the first field of a record that stands here empty: its length, four bytes, is 0, or as many of them as there is room
 /// for.

@@ -51,6 +51,18 @@ pub const READING_DEPLOYED: u32 = 0;
 /// The peer's version line is read by the letter of RFC 4253 section 4.2.
 pub const READING_STRICT: u32 = 1;
 
+/// The answer yes. It isn't 0, so that a number which was forgotten doesn't say it.
+pub const ANSWER_YES: u32 = 1;
+
+/// The answer no.
+pub const ANSWER_NO: u32 = 2;
+
+/// The answer to a question for a signature: the signature.
+pub const ANSWER_SIGNATURE: u32 = 3;
+
+/// The answer to a question for a signature: that there is none.
+pub const ANSWER_NO_SIGNATURE: u32 = 4;
+
 /// One attempt of a client's plan (RFC 4252 section 5).
 #[repr(C)]
 #[derive(Clone, Copy)]
@@ -61,9 +73,9 @@ pub struct AttemptInput<'a> {
     pub service: &'a [u8],
     /// The name of the private key's algorithm, of a public key alone.
     pub algorithm: &'a [u8],
-    /// The password, or the private key as the suite has it.
+    /// The password; the private key as the library has it; or of [`METHOD_SIGNED`] the public key.
     pub secret: &'a [u8],
-    /// How the user is proved: [`METHOD_NONE`], [`METHOD_PASSWORD`] or [`METHOD_PUBLICKEY`].
+    /// How the user is proved: [`METHOD_NONE`], [`METHOD_PASSWORD`], [`METHOD_PUBLICKEY`] or [`METHOD_SIGNED`].
     pub method: u32,
     /// Of a public key: whether the server is asked first if it would do, 1 for yes and 0 for no.
     pub ask: u32,
@@ -79,6 +91,9 @@ pub const METHOD_PASSWORD: u32 = 1;
 /// The method `publickey` (RFC 4252 section 7).
 pub const METHOD_PUBLICKEY: u32 = 2;
 
+/// The method `publickey`, with a key that the program has elsewhere: a client that asks is to be given the signature.
+pub const METHOD_SIGNED: u32 = 3;
+
 /// A client: its config, and the host keys that it trusts, or whether it asks.
 #[repr(C)]
 #[derive(Clone, Copy)]
@@ -93,11 +108,9 @@ pub struct ClientInput<'a> {
     pub trusted_host_keys: &'a [&'a [u8]],
     /// Whether the client announces a guess (RFC 4253 section 7), 1 for yes and 0 for no.
     pub guess: u32,
-    /// Whether the program is asked if the host key is trusted, 1 for yes and 0 for no. With 1 `trusted_host_keys` isn't read.
+    /// Whether the program is asked if the host key is trusted, and for signatures by keys that the library doesn't hold, 1 for yes
+    /// and 0 for no. With 1 `trusted_host_keys` isn't read.
     pub asks: u32,
-    /// Of a client that asks: the answer to each question so far, in order, one byte each, 1 for yes and 0 for no. Else not
-    /// read.
-    pub answers: &'a [u8],
 }
 
 /// One host key of a server.
@@ -106,9 +119,17 @@ pub struct ClientInput<'a> {
 pub struct HostKeyInput<'a> {
     /// The name of its algorithm.
     pub algorithm: &'a [u8],
-    /// The private key as the suite has it.
-    pub private_key: &'a [u8],
+    /// The private key as the library has it, or of [`KEY_ELSEWHERE`] the public key.
+    pub key: &'a [u8],
+    /// Which of both it is: [`KEY_HERE`] or [`KEY_ELSEWHERE`].
+    pub place: u32,
 }
+
+/// The library signs with the private key. It isn't 0, so that a public key which was meant isn't taken for a private one.
+pub const KEY_HERE: u32 = 1;
+
+/// The program has the private key elsewhere: a server that asks is to be given the signature.
+pub const KEY_ELSEWHERE: u32 = 2;
 
 /// What one user is accepted by, or one of several things. A request is successful where one of a server's entries has
 /// its user and what it proves.
@@ -145,9 +166,7 @@ pub struct ServerInput<'a> {
     pub users: &'a [UserInput<'a>],
     /// The number of the request at which a failure ends the session, 1 to 20.
     pub tries: u32,
-    /// Whether the program is asked who is accepted, 1 for yes and 0 for no. With 1 `users` isn't read.
+    /// Whether the program is asked who is accepted, and for signatures by host keys that the library doesn't hold, 1 for yes and 0
+    /// for no. With 1 `users` isn't read.
     pub asks: u32,
-    /// Of a server that asks: the answer to each question so far, in order, one byte each, 1 for yes and 0 for no. Else not
-    /// read.
-    pub answers: &'a [u8],
 }

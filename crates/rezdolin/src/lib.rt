@@ -1,8 +1,8 @@
 //! The door for programs in C, Rust, Python and other languages: a client or a server of SSH up to the authenticated
 //! user, by the algorithms that are deployed, and the packets of the session that goes on.
 //!
-//! No handle crosses. A program keeps the bytes that it has received, and its answers to what it was asked; each call
-//! answers what the endpoint sends for all of them, and the program takes what it hasn't sent yet. What stands after
+//! No handle crosses. What changes of an endpoint is a record, bytes that the program keeps: each call takes the one that the call
+//! before has written, and the bytes that came, and writes what the endpoint sends and its next record. What stands after
 //! authentication is kept by the program too, as bytes: the record of a session, and in it the state of each direction. So
 //! no call leaves anything in memory, and calls of several threads share nothing.
 //!
@@ -10,165 +10,210 @@
 #![tactic(auto)]
 
 mod answers;
-mod asking;
 mod copying;
 mod directions;
+mod frame;
 mod inputs;
+mod laws;
 mod parts;
+mod parts_digest;
+mod parts_of;
+mod public_keys;
 mod question;
 mod readable;
 mod record;
-mod talk;
+mod steps;
+mod telling;
 mod texts;
 mod trust;
 
-ghost use Rattle.std.specs.Prelude.{◌≡◌, ◌≢◌, ◌⊎◌, ◌≤◌, []};
-ghost use Rattle.sshcore.specs.EndpointParts.{client_setup, server_setup};
-ghost use Rattle.sshcore.specs.SuiteFit.{client_asked, server_asked};
+ghost use Rattle.std.specs.Prelude.{◌≡◌, ◌≢◌, List, length, replicate, ℕ};
 ghost use Rattle.sshsuite.specs.Deployed.{deployed};
-ghost use Rattle.rezdolin.specs.declared.answers.TheConstants.{STATUS_CONFIG, STATUS_ROOM};
-ghost use Rattle.rezdolin.specs.Asks.{AreUnfit, AsksAnswers, AsksLackRoom, AsksSkipUnsent};
-ghost use Rattle.rezdolin.specs.Directions.{IsOpened, IsSealed};
-ghost use Rattle.rezdolin.specs.Inputs.{AreClientTexts, AreServerTexts, client_of, server_of};
-ghost use Rattle.rezdolin.specs.Readable.{IsClientRead, IsServerRead};
-ghost use Rattle.rezdolin.specs.Refusals.{IsDeployed, IsRefusedClient, IsRefusedServer};
-ghost use Rattle.rezdolin.specs.Talks.{Answers, IsBlob, LacksRoom, SkipsUnsent, emptied};
-ghost use Rattle.rezdolin.specs.Trust.{trust_policy};
+ghost use Rattle.rezdolin.specs.Directions.{IsOpened, IsPut, IsSealed};
+ghost use Rattle.rezdolin.specs.declared.parts_of.Parts.TheVariants as parts;
+ghost use Rattle.rezdolin.specs.Steps.{Begins, Calls, Disconnects, GoesOn, IsAnsweredBy, IsBlob, emptied};
+ghost use Rattle.rezdolin.specs.StepsView.{WhyNoAnswer, WhyNoLeave, WhyNot, WhyNotFrom};
 
-use crate::answers::{
-    BytesAnswer, BytesFault, EndpointAnswer, STATUS_ANSWERED, STATUS_UNREADABLE, no_bytes,
-    no_config, unanswered,
-};
-use crate::asking::{asking_client, asking_server};
+use crate::answers::{BytesAnswer, BytesFault, STATUS_ANSWERED, StepAnswer, no_bytes};
 use crate::copying::{empty, is_copied};
 use crate::directions::{open, seal};
 use crate::inputs::{ClientInput, ServerInput};
-use crate::parts::{client_config, server_config};
-use crate::readable::{is_client_read, is_server_read};
-use crate::talk::{client_answer, server_answer};
-use crate::trust::Trust;
+use crate::parts_of::Parts;
+use crate::steps::{answered, begun, disconnected, stepped};
+use crate::telling::tell;
+use sshidentity::identity_in;
 use sshpacket::Suite;
 use sshsuite::DeployedSuite;
 use std::alloc::Global;
 
-/// What a client sends for these bytes, from the byte `skip` of all that it sends; `received` may be empty.
-///
-/// `session` gets the record of the session of an authenticated client; and `question` that of the question of a client that asks,
-/// which goes on where the next call has the answer among its data. Each call first empties the first field of both, so neither keeps
-/// what an earlier call put there.
-#[tactic(auto, using(crate::proofs::AnswerLemmas::refused_by, crate::proofs::AnswerLemmas::unreadable_by))]
+/// A client that has received nothing yet: `out` gets what it sends first, and `next` its record.
 #[unsafe(no_mangle)]
-pub extern "C" fn rezdolin_client(
+pub extern "C" fn rezdolin_client_begin(
     alloc: Global,
     client: &ClientInput<'_>,
-    received: &[u8],
-    skip: usize,
+    next: &mut [u8],
     out: &mut [u8],
-    session: &mut [u8],
-    question: &mut [u8],
-) -> EndpointAnswer
-    ensures readable { result.status ≢ STATUS_UNREADABLE → IsClientRead client.now }
-    ensures deployed { result.status ≡ STATUS_ANSWERED → IsDeployed (client_asked (client_of client.now)) }
-    ensures answers { result.status ≡ STATUS_ANSWERED → client.now.asks ≢ 1
-        → Answers (client_setup deployed (trust_policy client.now.trusted_host_keys.now []) (client_of client.now)) received.now skip out.old (emptied session.old) result out.new session.new }
-    ensures unasked { client.now.asks ≢ 1 → (result.question_len ≡ 0) × (question.new ≡ emptied question.old) }
-    ensures asks { result.status ≡ STATUS_ANSWERED → client.now.asks ≡ 1
-        → AsksAnswers (λ d. client_setup deployed d (client_of client.now)) client.now.answers.now received.now skip out.old (emptied session.old) (emptied question.old) result out.new session.new question.new }
-    ensures room { result.status ≡ STATUS_ROOM → client.now.asks ≢ 1 → LacksRoom (client_setup deployed (trust_policy client.now.trusted_host_keys.now []) (client_of client.now)) received.now (emptied session.old) result }
-    ensures rooms { result.status ≡ STATUS_ROOM → client.now.asks ≡ 1 → AsksLackRoom (λ d. client_setup deployed d (client_of client.now)) client.now.answers.now received.now (emptied session.old) (emptied question.old) result }
-    ensures refused { result.status ≡ STATUS_CONFIG → IsRefusedClient (client_of client.now) result.config }
-    ensures unrefused { result.status ≢ STATUS_CONFIG → result.config ≡ 0 }
-    ensures unreadable { result.status ≡ STATUS_UNREADABLE → IsClientRead client.now → AreClientTexts client.now → client.now.asks ≢ 1
-        → SkipsUnsent (client_setup deployed (trust_policy client.now.trusted_host_keys.now []) (client_of client.now)) received.now skip }
-    ensures unfit { result.status ≡ STATUS_UNREADABLE → IsClientRead client.now → AreClientTexts client.now → client.now.asks ≡ 1
-        → AreUnfit (λ d. client_setup deployed d (client_of client.now)) client.now.answers.now received.now ⊎ AsksSkipUnsent (λ d. client_setup deployed d (client_of client.now)) client.now.answers.now received.now skip }
-    ensures statuses { result.status ≤ STATUS_ROOM }
-    ensures kept { result.status ≢ STATUS_ANSWERED → (out.new ≡ out.old) × (session.new ≡ emptied session.old) × (question.new ≡ emptied question.old) }
+) -> StepAnswer
+    ensures { (spare : List ℕ) × (length spare ≡ 0) × ((new_spare : List ℕ) × Calls (Begins (parts.Client client.entry)) (WhyNot (parts.Client client.entry)) result out.old next.old spare out.new next.new new_spare) }
 {
-    empty(session);
-    empty(question);
-    if !is_client_read(client) {
-        return unanswered(STATUS_UNREADABLE, 0);
-    }
-    let config = match client_config(alloc, client) {
-        Ok(config) => config,
-        Err(fault) => return no_config(fault),
-    };
-    if client.asks == 1 {
-        let answers = client.answers;
-        let answer = asking_client(
-            alloc, &config, answers, received, skip, out, session, question,
-        );
-        drop(config);
-        return answer;
-    }
-    let trust = Trust {
-        host_keys: client.trusted_host_keys,
-        users: &[],
-    };
-    let answer = client_answer(alloc, &config, &trust, received, skip, out, session);
-    drop(config);
-    answer
+    tell(&begun(alloc, &Parts::Client(client)), next, out, &mut [])
 }
 
-/// What a server sends for these bytes, from the byte `skip` of all that it sends; `received` may be empty.
-///
-/// `session` gets the record of the session of an authenticated server; and `question` that of the question of a server that asks,
-/// which goes on where the next call has the answer among its data. Each call first empties the first field of both, so neither keeps
-/// what an earlier call put there.
-#[tactic(auto, using(crate::proofs::AnswerLemmas::refused_by, crate::proofs::AnswerLemmas::unreadable_by))]
+/// A client that goes on from its record with these bytes, of which there may be none: `out` gets what it sends, `next` its record, and
+/// `told` the record of its question or of its session.
 #[unsafe(no_mangle)]
-pub extern "C" fn rezdolin_server(
+pub extern "C" fn rezdolin_client_step(
+    alloc: Global,
+    client: &ClientInput<'_>,
+    record: &[u8],
+    piece: &[u8],
+    next: &mut [u8],
+    out: &mut [u8],
+    told: &mut [u8],
+) -> StepAnswer
+    ensures { Calls (GoesOn (parts.Client client.entry) «record».now piece.now) (WhyNotFrom (parts.Client client.entry) «record».now) result out.old next.old (emptied told.old) out.new next.new told.new }
+{
+    empty(told);
+    tell(
+        &stepped(alloc, &Parts::Client(client), record, piece),
+        next,
+        out,
+        told,
+    )
+}
+
+/// A client that goes on from its record with the answer to its question, one of `ANSWER_`, with the signature where it is one.
+#[unsafe(no_mangle)]
+pub extern "C" fn rezdolin_client_answer(
+    alloc: Global,
+    client: &ClientInput<'_>,
+    record: &[u8],
+    answer: u32,
+    signature: &[u8],
+    next: &mut [u8],
+    out: &mut [u8],
+    told: &mut [u8],
+) -> StepAnswer
+    ensures { Calls (IsAnsweredBy (parts.Client client.entry) «record».now answer signature.now) (WhyNoAnswer (parts.Client client.entry) «record».now answer signature.now) result out.old next.old (emptied told.old) out.new next.new told.new }
+{
+    empty(told);
+    tell(
+        &answered(alloc, &Parts::Client(client), record, answer, signature),
+        next,
+        out,
+        told,
+    )
+}
+
+/// A client that is told to disconnect with this reason and description (RFC 4253 section 11.1): `out` gets the DISCONNECT, and there is
+/// no record any more.
+#[unsafe(no_mangle)]
+pub extern "C" fn rezdolin_client_disconnect(
+    alloc: Global,
+    client: &ClientInput<'_>,
+    record: &[u8],
+    reason: u32,
+    description: &[u8],
+    out: &mut [u8],
+) -> StepAnswer
+    ensures { (spare other : List ℕ) × (new_spare new_other : List ℕ) × Calls (Disconnects (parts.Client client.entry) «record».now reason description.now) (WhyNoLeave (parts.Client client.entry) «record».now description.now) result out.old spare other out.new new_spare new_other }
+{
+    tell(
+        &disconnected(alloc, &Parts::Client(client), record, reason, description),
+        &mut [],
+        out,
+        &mut [],
+    )
+}
+
+/// A server that has received nothing yet: `out` gets what it sends first, and `next` its record.
+#[unsafe(no_mangle)]
+pub extern "C" fn rezdolin_server_begin(
     alloc: Global,
     server: &ServerInput<'_>,
-    received: &[u8],
-    skip: usize,
+    next: &mut [u8],
     out: &mut [u8],
-    session: &mut [u8],
-    question: &mut [u8],
-) -> EndpointAnswer
-    ensures readable { result.status ≢ STATUS_UNREADABLE → IsServerRead server.now }
-    ensures deployed { result.status ≡ STATUS_ANSWERED → IsDeployed (server_asked (server_of server.now)) }
-    ensures answers { result.status ≡ STATUS_ANSWERED → server.now.asks ≢ 1
-        → Answers (server_setup deployed (trust_policy [] server.now.users.now) (server_of server.now)) received.now skip out.old (emptied session.old) result out.new session.new }
-    ensures unasked { server.now.asks ≢ 1 → (result.question_len ≡ 0) × (question.new ≡ emptied question.old) }
-    ensures asks { result.status ≡ STATUS_ANSWERED → server.now.asks ≡ 1
-        → AsksAnswers (λ d. server_setup deployed d (server_of server.now)) server.now.answers.now received.now skip out.old (emptied session.old) (emptied question.old) result out.new session.new question.new }
-    ensures room { result.status ≡ STATUS_ROOM → server.now.asks ≢ 1 → LacksRoom (server_setup deployed (trust_policy [] server.now.users.now) (server_of server.now)) received.now (emptied session.old) result }
-    ensures rooms { result.status ≡ STATUS_ROOM → server.now.asks ≡ 1 → AsksLackRoom (λ d. server_setup deployed d (server_of server.now)) server.now.answers.now received.now (emptied session.old) (emptied question.old) result }
-    ensures refused { result.status ≡ STATUS_CONFIG → IsRefusedServer (server_of server.now) result.config }
-    ensures unrefused { result.status ≢ STATUS_CONFIG → result.config ≡ 0 }
-    ensures unreadable { result.status ≡ STATUS_UNREADABLE → IsServerRead server.now → AreServerTexts server.now → server.now.asks ≢ 1
-        → SkipsUnsent (server_setup deployed (trust_policy [] server.now.users.now) (server_of server.now)) received.now skip }
-    ensures unfit { result.status ≡ STATUS_UNREADABLE → IsServerRead server.now → AreServerTexts server.now → server.now.asks ≡ 1
-        → AreUnfit (λ d. server_setup deployed d (server_of server.now)) server.now.answers.now received.now ⊎ AsksSkipUnsent (λ d. server_setup deployed d (server_of server.now)) server.now.answers.now received.now skip }
-    ensures statuses { result.status ≤ STATUS_ROOM }
-    ensures kept { result.status ≢ STATUS_ANSWERED → (out.new ≡ out.old) × (session.new ≡ emptied session.old) × (question.new ≡ emptied question.old) }
+) -> StepAnswer
+    ensures { (spare : List ℕ) × (length spare ≡ 0) × ((new_spare : List ℕ) × Calls (Begins (parts.Server server.entry)) (WhyNot (parts.Server server.entry)) result out.old next.old spare out.new next.new new_spare) }
 {
-    empty(session);
-    empty(question);
-    if !is_server_read(server) {
-        return unanswered(STATUS_UNREADABLE, 0);
+    tell(&begun(alloc, &Parts::Server(server)), next, out, &mut [])
+}
+
+/// A server that goes on from its record with these bytes, of which there may be none: `out` gets what it sends, `next` its record, and
+/// `told` the record of its question or of its session.
+#[unsafe(no_mangle)]
+pub extern "C" fn rezdolin_server_step(
+    alloc: Global,
+    server: &ServerInput<'_>,
+    record: &[u8],
+    piece: &[u8],
+    next: &mut [u8],
+    out: &mut [u8],
+    told: &mut [u8],
+) -> StepAnswer
+    ensures { Calls (GoesOn (parts.Server server.entry) «record».now piece.now) (WhyNotFrom (parts.Server server.entry) «record».now) result out.old next.old (emptied told.old) out.new next.new told.new }
+{
+    empty(told);
+    tell(
+        &stepped(alloc, &Parts::Server(server), record, piece),
+        next,
+        out,
+        told,
+    )
+}
+
+/// A server that goes on from its record with the answer to its question, one of `ANSWER_`, with the signature where it is one.
+#[unsafe(no_mangle)]
+pub extern "C" fn rezdolin_server_answer(
+    alloc: Global,
+    server: &ServerInput<'_>,
+    record: &[u8],
+    answer: u32,
+    signature: &[u8],
+    next: &mut [u8],
+    out: &mut [u8],
+    told: &mut [u8],
+) -> StepAnswer
+    ensures { Calls (IsAnsweredBy (parts.Server server.entry) «record».now answer signature.now) (WhyNoAnswer (parts.Server server.entry) «record».now answer signature.now) result out.old next.old (emptied told.old) out.new next.new told.new }
+{
+    empty(told);
+    tell(
+        &answered(alloc, &Parts::Server(server), record, answer, signature),
+        next,
+        out,
+        told,
+    )
+}
+
+/// A server that is told to disconnect with this reason and description (RFC 4253 section 11.1): `out` gets the DISCONNECT, and there is
+/// no record any more.
+#[unsafe(no_mangle)]
+pub extern "C" fn rezdolin_server_disconnect(
+    alloc: Global,
+    server: &ServerInput<'_>,
+    record: &[u8],
+    reason: u32,
+    description: &[u8],
+    out: &mut [u8],
+) -> StepAnswer
+    ensures { (spare other : List ℕ) × (new_spare new_other : List ℕ) × Calls (Disconnects (parts.Server server.entry) «record».now reason description.now) (WhyNoLeave (parts.Server server.entry) «record».now description.now) result out.old spare other out.new new_spare new_other }
+{
+    tell(
+        &disconnected(alloc, &Parts::Server(server), record, reason, description),
+        &mut [],
+        out,
+        &mut [],
+    )
+}
+
+/// Overwrites bytes with zeros: secrets, or a record. A compiler can't leave the call out, since it doesn't see what it does.
+#[unsafe(no_mangle)]
+pub extern "C" fn rezdolin_wipe(bytes: &mut [u8])
+    ensures { bytes.new ≡ replicate (length bytes.old) 0 }
+{
+    for index in 0..bytes.len() {
+        bytes[index] = 0;
     }
-    let config = match server_config(alloc, server) {
-        Ok(config) => config,
-        Err(fault) => return no_config(fault),
-    };
-    if server.asks == 1 {
-        let answers = server.answers;
-        let answer = asking_server(
-            alloc, &config, answers, received, skip, out, session, question,
-        );
-        drop(config);
-        return answer;
-    }
-    let trust = Trust {
-        host_keys: &[],
-        users: server.users,
-    };
-    let answer = server_answer(alloc, &config, &trust, received, skip, out, session);
-    drop(config);
-    answer
 }
 
 /// The public key of a private key of ssh-ed25519 (the 32 bytes of RFC 8032 section 5.1.5), as a server sends it and a
@@ -188,6 +233,24 @@ pub extern "C" fn rezdolin_public_key(
     match DeployedSuite.blob(alloc, "ssh-ed25519", private_key) {
         Ok(blob) if is_copied(&blob, out) => written(0, blob.len()),
         Ok(blob) => no_bytes(BytesFault::Room(blob.len())),
+        Err(_) => no_bytes(BytesFault::Memory),
+    }
+}
+
+/// The private key in the text of a file as `ssh-keygen -t ed25519` writes it, without a passphrase: its 32 bytes, for an attempt or a
+/// host key. Where there is none, `fault` says why, and the status is [`STATUS_IDENTITY`](crate::answers::STATUS_IDENTITY).
+#[unsafe(no_mangle)]
+pub extern "C" fn rezdolin_read_identity(alloc: Global, text: &[u8], out: &mut [u8]) -> BytesAnswer
+    ensures length { result.status ≡ STATUS_ANSWERED → (key : List ℕ) × (length key ≡ 32) × IsPut key out.old result.len out.new }
+    ensures kept { result.status ≢ STATUS_ANSWERED → out.new ≡ out.old }
+{
+    let Ok(text) = str::from_utf8(text) else {
+        return no_bytes(BytesFault::Unreadable);
+    };
+    match identity_in(alloc, text) {
+        Ok(Ok(key)) if is_copied(&key, out) => written(0, key.len()),
+        Ok(Ok(key)) => no_bytes(BytesFault::Room(key.len())),
+        Ok(Err(fault)) => no_bytes(BytesFault::Identity(fault)),
         Err(_) => no_bytes(BytesFault::Memory),
     }
 }

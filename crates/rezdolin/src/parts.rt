@@ -1,24 +1,25 @@
 //! Configs of what a program has put in.
 
-ghost use Rattle.std.specs.Prelude.{◌≡◌, ◌≢◌, ℕ, IfErr, IfOk, map, string_bytes};
+ghost use Rattle.std.specs.Prelude.{◌≡◌, ◌≢◌, ℕ, IfErr, IfOk, map, string_bytes, true};
 ghost use Rattle.std.specs.List.{AllByRecursion};
 ghost use Rattle.std.specs.Str.{IsUtf8};
 ghost use Rattle.sshcore.specs.ConfigRules.{IsClient, IsServer};
 ghost use Rattle.sshcore.specs.ConfigView.{attempt_data, client_data, credential_data, host_key_data, server_data, side_data};
-ghost use Rattle.sshcore.specs.SuiteFit.{client_asked, server_asked, suite_fault_data};
+ghost use Rattle.sshcore.specs.SuiteFit.{client_names, server_names};
 ghost use Rattle.rezdolin.specs.declared.parts.NoConfig.TheVariants as no;
 ghost use Rattle.rezdolin.specs.declared.texts.InputFault.TheVariants as fault;
 ghost use Rattle.rezdolin.specs.Inputs.{AreAttemptTexts, AreClientTexts, AreServerTexts, AreSideTexts, attempt_by, client_of, host_key_by, proving_by, reading_by, server_of, side_of, user_algorithms};
-ghost use Rattle.rezdolin.specs.Refusals.{IsDeployed, IsUnfit, RefusesClient, RefusesServer, unfit_number};
+ghost use Rattle.rezdolin.specs.Refusals.{IsDeployed, IsFitClient, IsFitServer, IsUnfit, RefusesClient, RefusesServer, are_attempts_placed, are_keys_placed, is_attempt_placed, is_elsewhere, is_held, is_key_placed};
 
 use crate::inputs::{
-    AttemptInput, ClientInput, HostKeyInput, IGNORED_LIMIT, METHOD_NONE, METHOD_PASSWORD,
-    METHOD_PUBLICKEY, READING_STRICT, STRICT_YES, ServerInput, SideInput,
+    AttemptInput, ClientInput, HostKeyInput, IGNORED_LIMIT, KEY_HERE, METHOD_NONE, METHOD_PASSWORD,
+    METHOD_PUBLICKEY, METHOD_SIGNED, READING_STRICT, STRICT_YES, ServerInput, SideInput,
 };
+use crate::public_keys::is_public_key;
 use crate::texts::{InputFault, bytes_in, copies_of, names_of, text_in, text_of};
 use sshcore::{
     Attempt, ClientConfig, ClientParts, ConfigFault, Credential, HostKey, PeerReading,
-    ServerConfig, ServerParts, SideParts, SuiteFault,
+    ServerConfig, ServerParts, SideParts,
 };
 use sshsuite::DeployedSuite;
 use sshwire::Memory;
@@ -35,76 +36,122 @@ pub(crate) enum NoConfig {
     Unfit(u32),
 }
 
-/// A client's config, for which the suite has all.
+/// A client's config, for which the suite has each algorithm that is named.
 pub(crate) fn client_config(
     alloc: Global,
     client: &ClientInput<'_>,
 ) -> Result<ClientConfig, NoConfig>
-    ensures config { IfOk result (λ config. (config ≡ client_of client.now) × IsClient config × IsDeployed (client_asked config)) }
+    ensures config { IfOk result (λ config. (config ≡ client_of client.now) × IsClient config × IsFitClient client.now) }
     ensures refused { IfErr result (λ f. RefusesClient client.now f) }
 {
     match client_parts(alloc, client) {
         Ok(parts) => match ClientConfig::new(alloc, parts) {
-            Ok(config) => deployed_client(config),
+            Ok(config) => fit_client(config, client.plan),
             Err(fault) => Err(NoConfig::Parts(fault)),
         },
         Err(fault) => Err(NoConfig::Input(fault)),
     }
 }
 
-/// A server's config, for which the suite has all.
+/// A server's config, for which the suite has each algorithm that is named.
 pub(crate) fn server_config(
     alloc: Global,
     server: &ServerInput<'_>,
 ) -> Result<ServerConfig, NoConfig>
-    ensures config { IfOk result (λ config. (config ≡ server_of server.now) × IsServer config × IsDeployed (server_asked config)) }
+    ensures config { IfOk result (λ config. (config ≡ server_of server.now) × IsServer config × IsFitServer server.now) }
     ensures refused { IfErr result (λ f. RefusesServer server.now f) }
 {
     match server_parts(alloc, server) {
         Ok(parts) => match ServerConfig::new(alloc, parts) {
-            Ok(config) => deployed_server(config),
+            Ok(config) => fit_server(config, server.host_keys),
             Err(fault) => Err(NoConfig::Parts(fault)),
         },
         Err(fault) => Err(NoConfig::Input(fault)),
     }
 }
 
-/// The same config, where the suite has all for it.
-#[tactic(auto, using(crate::proofs::AnswerLemmas::unfit_by))]
-fn deployed_client(config: ClientConfig) -> Result<ClientConfig, NoConfig>
-    ensures config { IfOk result (λ same. (same ≡ config) × IsDeployed (client_asked config)) }
-    ensures unfit { IfErr result (λ f. (n : ℕ) × (f ≡ no.Unfit n) × IsUnfit (client_asked config) n) }
+/// The same config, where the suite has all that it names, and the private keys are where their numbers tell.
+fn fit_client(config: ClientConfig, plan: &[AttemptInput<'_>]) -> Result<ClientConfig, NoConfig>
+    ensures config { IfOk result (λ same. (same ≡ config) × IsDeployed (client_names config) × (are_attempts_placed plan.now ≡ true)) }
+    ensures unfit { IfErr result (λ f. (n : ℕ) × (f ≡ no.Unfit n) × IsUnfit (client_names config) (are_attempts_placed plan.now) n) }
 {
-    let number = match config.judge(&DeployedSuite) {
-        Ok(()) => return Ok(config),
-        Err(fault) => unfit_number(&fault),
+    let number = match config.judge_names(&DeployedSuite) {
+        Ok(()) if are_attempts_placed(plan) => return Ok(config),
+        Ok(()) => UNFIT_KEY,
+        Err(_) => UNFIT_NAME,
     };
     drop(config);
     Err(NoConfig::Unfit(number))
 }
 
-/// The same config, where the suite has all for it.
-#[tactic(auto, using(crate::proofs::AnswerLemmas::unfit_by))]
-fn deployed_server(config: ServerConfig) -> Result<ServerConfig, NoConfig>
-    ensures config { IfOk result (λ same. (same ≡ config) × IsDeployed (server_asked config)) }
-    ensures unfit { IfErr result (λ f. (n : ℕ) × (f ≡ no.Unfit n) × IsUnfit (server_asked config) n) }
+/// The same config, where the suite has all that it names, and the private keys are where their numbers tell.
+fn fit_server(config: ServerConfig, keys: &[HostKeyInput<'_>]) -> Result<ServerConfig, NoConfig>
+    ensures config { IfOk result (λ same. (same ≡ config) × IsDeployed (server_names config) × (are_keys_placed keys.now ≡ true)) }
+    ensures unfit { IfErr result (λ f. (n : ℕ) × (f ≡ no.Unfit n) × IsUnfit (server_names config) (are_keys_placed keys.now) n) }
 {
-    let number = match config.judge(&DeployedSuite) {
-        Ok(()) => return Ok(config),
-        Err(fault) => unfit_number(&fault),
+    let number = match config.judge_names(&DeployedSuite) {
+        Ok(()) if are_keys_placed(keys) => return Ok(config),
+        Ok(()) => UNFIT_KEY,
+        Err(_) => UNFIT_NAME,
     };
     drop(config);
     Err(NoConfig::Unfit(number))
 }
 
-/// The number of what the suite lacks.
-fn unfit_number(fault: &SuiteFault<'_>) -> u32
-    ensures { result ≡ unfit_number (suite_fault_data fault.now) }
+/// The number of an algorithm that the suite hasn't.
+const UNFIT_NAME: u32 = 13;
+
+/// The number of a private key that isn't where its number tells.
+const UNFIT_KEY: u32 = 14;
+
+/// Whether the suite holds each private key of a plan, and none of those that are elsewhere.
+fn are_attempts_placed(plan: &[AttemptInput<'_>]) -> bool
+    ensures { result ≡ are_attempts_placed plan.now }
 {
-    match fault {
-        SuiteFault::Algorithm { .. } => 13,
-        SuiteFault::PrivateKey { .. } => 14,
+    plan.iter().all(|attempt| is_attempt_placed(attempt))
+}
+
+/// Whether it does so of one.
+fn is_attempt_placed(attempt: &AttemptInput<'_>) -> bool
+    ensures { result ≡ is_attempt_placed attempt.now }
+{
+    match attempt.method {
+        METHOD_PUBLICKEY => is_held(attempt.algorithm, attempt.secret),
+        METHOD_SIGNED => is_elsewhere(attempt.algorithm, attempt.secret),
+        _ => true,
     }
+}
+
+/// The same of host keys.
+fn are_keys_placed(keys: &[HostKeyInput<'_>]) -> bool
+    ensures { result ≡ are_keys_placed keys.now }
+{
+    keys.iter().all(|key| is_key_placed(key))
+}
+
+/// Whether it does so of one.
+fn is_key_placed(key: &HostKeyInput<'_>) -> bool
+    ensures { result ≡ is_key_placed key.now }
+{
+    if key.place == KEY_HERE {
+        is_held(key.algorithm, key.key)
+    } else {
+        is_elsewhere(key.algorithm, key.key)
+    }
+}
+
+/// Whether these bytes are a public key, and no private key that the suite holds.
+fn is_elsewhere(algorithm: &[u8], key: &[u8]) -> bool
+    ensures { result ≡ is_elsewhere algorithm.now key.now }
+{
+    is_public_key(key) && !is_held(algorithm, key)
+}
+
+/// Whether the suite holds this private key of this algorithm: 32 bytes of ssh-ed25519.
+fn is_held(algorithm: &[u8], private_key: &[u8]) -> bool
+    ensures { result ≡ is_held algorithm.now private_key.now }
+{
+    algorithm == b"ssh-ed25519".as_slice() && private_key.len() == 32
 }
 
 /// A client's parts.
@@ -158,7 +205,7 @@ fn credential_of(alloc: Global, attempt: &AttemptInput<'_>) -> Result<Credential
     match attempt.method {
         METHOD_NONE => Ok(Credential::None),
         METHOD_PASSWORD => Ok(Credential::Password(Vec::from_slice(alloc, attempt.secret)?)),
-        METHOD_PUBLICKEY => {
+        METHOD_PUBLICKEY | METHOD_SIGNED => {
             let algorithm = text_of(alloc, attempt.algorithm)?;
             Ok(Credential::PublicKey {
                 algorithm,
@@ -227,7 +274,7 @@ fn host_key_data(alloc: Global, key: &HostKeyInput<'_>) -> Result<HostKey, Input
     let algorithm = text_of(alloc, key.algorithm)?;
     Ok(HostKey {
         algorithm,
-        private_key: Vec::from_slice(alloc, key.private_key)?,
+        private_key: Vec::from_slice(alloc, key.key)?,
     })
 }
 

@@ -5,7 +5,7 @@ ghost use Rattle.sshcore.specs.EndpointPartsView.{proof_data};
 ghost use Rattle.sshcore.specs.Questions.{HostKeyQuestion, SignatureQuestion, UserQuestion};
 ghost use Rattle.sshcore.specs.QuestionsView.{question_data};
 ghost use Rattle.sshwire.specs.Types.{uint32};
-ghost use Rattle.rezdolin.specs.Asks.{method_of, proof_fields, question_bytes};
+ghost use Rattle.rezdolin.specs.Questions.{method_of, proof_fields, question_bytes};
 ghost use Rattle.rezdolin.specs.Records.{strings};
 
 use crate::answers::{ASKS_HOST_KEY, ASKS_SIGNATURE, ASKS_USER};

@@ -5,11 +5,12 @@
 
 ghost use Rattle.std.specs.Prelude.{◌≡◌, false, true};
 ghost use Rattle.std.specs.List.{AllByRecursion};
-ghost use Rattle.rezdolin.specs.Readable.{IsAttempt, IsClientRead, IsEntry, IsMethod, IsPeerReading, IsServerRead, IsStrictness};
+ghost use Rattle.rezdolin.specs.Readable.{IsAttempt, IsClientRead, IsEntry, IsMethod, IsPeerReading, IsPlaced, IsServerRead, IsStrictness};
 
 use crate::inputs::{
-    AttemptInput, ClientInput, METHOD_NONE, METHOD_PASSWORD, METHOD_PUBLICKEY, READING_DEPLOYED,
-    READING_STRICT, STRICT_NO, STRICT_YES, ServerInput, UserInput,
+    AttemptInput, ClientInput, HostKeyInput, KEY_ELSEWHERE, KEY_HERE, METHOD_NONE, METHOD_PASSWORD,
+    METHOD_PUBLICKEY, METHOD_SIGNED, READING_DEPLOYED, READING_STRICT, STRICT_NO, STRICT_YES,
+    ServerInput, UserInput,
 };
 
 /// Whether the numbers of a client can be read.
@@ -21,7 +22,7 @@ pub(crate) fn is_client_read(client: &ClientInput<'_>) -> bool
         && is_peer_reading(client.side.reading)
         && client.guess <= 1
         && client.asks <= 1
-        && are_attempts(client.plan)
+        && are_attempts(client.plan, client.asks == 1)
 }
 
 /// Whether the numbers of a server, and the entries that it reads, can be read.
@@ -32,20 +33,42 @@ pub(crate) fn is_server_read(server: &ServerInput<'_>) -> bool
     is_strictness(server.side.strict)
         && is_peer_reading(server.side.reading)
         && server.asks <= 1
+        && are_keys(server.host_keys, server.asks == 1)
         && (server.asks == 1 || are_entries(server.users))
 }
 
-/// Whether the numbers of each attempt can be read.
-fn are_attempts(plan: &[AttemptInput<'_>]) -> bool
-    ensures yes { result ≡ true → AllByRecursion IsAttempt plan.now }
-    ensures no { result ≡ false → AllByRecursion IsAttempt plan.now → ⊥ }
+/// Whether the numbers of each attempt of a client can be read that asks, or doesn't.
+fn are_attempts(plan: &[AttemptInput<'_>], asks: bool) -> bool
+    ensures yes { result ≡ true → AllByRecursion (IsAttempt asks) plan.now }
+    ensures no { result ≡ false → AllByRecursion (IsAttempt asks) plan.now → ⊥ }
 {
     for attempt in plan {
-        if !is_attempt(attempt) {
+        if !is_attempt(attempt, asks) {
             return false;
         }
     }
     true
+}
+
+/// Whether the place of each host key of a server can be read that asks, or doesn't.
+fn are_keys(keys: &[HostKeyInput<'_>], asks: bool) -> bool
+    ensures yes { result ≡ true → AllByRecursion (IsPlaced asks) keys.now }
+    ensures no { result ≡ false → AllByRecursion (IsPlaced asks) keys.now → ⊥ }
+{
+    for key in keys {
+        if !is_placed(key, asks) {
+            return false;
+        }
+    }
+    true
+}
+
+/// Whether the place of a host key can be read.
+fn is_placed(key: &HostKeyInput<'_>, asks: bool) -> bool
+    ensures yes { result ≡ true → IsPlaced asks key.now }
+    ensures no { result ≡ false → IsPlaced asks key.now → ⊥ }
+{
+    key.place == KEY_HERE || (key.place == KEY_ELSEWHERE && asks)
 }
 
 /// Whether each entry can be read.
@@ -86,11 +109,11 @@ fn is_method(number: u32) -> bool
 }
 
 /// Whether the numbers of an attempt can be read.
-fn is_attempt(attempt: &AttemptInput<'_>) -> bool
-    ensures yes { result ≡ true → IsAttempt attempt.now }
-    ensures no { result ≡ false → IsAttempt attempt.now → ⊥ }
+fn is_attempt(attempt: &AttemptInput<'_>, asks: bool) -> bool
+    ensures yes { result ≡ true → IsAttempt asks attempt.now }
+    ensures no { result ≡ false → IsAttempt asks attempt.now → ⊥ }
 {
-    is_method(attempt.method) && attempt.ask <= 1
+    (is_method(attempt.method) || (attempt.method == METHOD_SIGNED && asks)) && attempt.ask <= 1
 }
 
 /// Whether an entry has a user, a method, and what the method wants: nothing, or some bytes.

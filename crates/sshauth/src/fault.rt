@@ -1,6 +1,7 @@
 //! Why the program doesn't begin, or doesn't go on.
 
 use sshcore::{ConfigFault, LinkFault};
+use sshidentity::IdentityFault;
 use sshwire::{Memory, WireFault};
 use std::alloc::{AllocError, AllocFailed};
 use std::fmt;
@@ -128,54 +129,24 @@ impl From<WireFault> for Fault {
 /// Why a file has no private key that can be used.
 #[derive(Clone, Copy)]
 pub(crate) enum KeyFault {
-    /// It is a public key.
-    Public,
-    /// It is a private key in another form than OpenSSH's, as PEM.
-    OtherForm,
-    /// It has a passphrase.
-    Encrypted,
-    /// Its key is one of RSA.
-    Rsa,
-    /// Its key is one of ECDSA.
-    Ecdsa,
-    /// Its key is of another kind.
-    OtherKind,
-    /// It has more keys than one, or none.
-    Several,
-    /// It ends too early.
-    Cut,
-    /// Its public key isn't that of its private one.
-    Halves,
-    /// What fills it up is wrong, or bytes stand after its key.
-    Padding,
+    /// There is none in its text.
+    Identity(IdentityFault),
     /// Others may read it, or write to it.
     Readable,
     /// Its public key is of another kind than its line says.
     Contradicts,
     /// Its line's public key can't be read.
     Blob,
-    /// It is none of these, and no private key.
-    Form,
 }
 
 impl KeyFault {
     /// What is told of the file.
     fn words(&self) -> &'static str {
         match self {
-            KeyFault::Public => "is a public key, where a private one is wanted",
-            KeyFault::OtherForm => "has a key in another form (PEM) than OpenSSH's",
-            KeyFault::Encrypted => "has a passphrase, and no key with one can be read",
-            KeyFault::Rsa => "has a key of RSA, where one of ssh-ed25519 is wanted",
-            KeyFault::Ecdsa => "has a key of ECDSA, where one of ssh-ed25519 is wanted",
-            KeyFault::OtherKind => "has a key of another kind, where one of ssh-ed25519 is wanted",
-            KeyFault::Several => "hasn't just one key",
-            KeyFault::Cut => "is cut off",
-            KeyFault::Halves => "has a public key that isn't that of its private one",
-            KeyFault::Padding => "has wrong padding, or bytes after its key",
+            KeyFault::Identity(fault) => fault.words(),
             KeyFault::Readable => "may be read or written by others than its owner",
             KeyFault::Contradicts => "has a public key of another kind than its line says",
             KeyFault::Blob => "has a public key that can't be read",
-            KeyFault::Form => "has no private key in OpenSSH's form",
         }
     }
 }

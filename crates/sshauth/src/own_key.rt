@@ -11,6 +11,7 @@ use crate::key_lines::cut_word;
 use crate::parts::ALGORITHM;
 use crate::settings::Settings;
 use sshcore::PRIVATE_KEY_LIMIT;
+use sshidentity::IdentityFault;
 use sshpacket::Suite;
 use sshsuite::DeployedSuite;
 use sshwire::{Reader, as_name};
@@ -38,7 +39,10 @@ pub(crate) fn own_key(
             algorithm: String::from_str(rt.alloc(), ALGORITHM)?,
             bytes,
         }),
-        Err(KeyFault::Public) if settings.agent.is_some() => public_key_in(rt.alloc(), text)?,
+        Err(KeyFault::Identity(IdentityFault::Public)) if settings.agent.is_some() => public_key_in(
+            rt.alloc(),
+            text,
+        )?,
         Err(fault) => Err(fault),
     };
     found.map_err(|fault| Fault::Key(option, fault))
@@ -50,7 +54,7 @@ fn public_key_in(alloc: Global, text: &str) -> Result<Result<OwnKey, KeyFault>, 
 {
     let line = text.trim();
     if line.contains('\n') {
-        return Ok(Err(KeyFault::Several));
+        return Ok(Err(KeyFault::Identity(IdentityFault::Several)));
     }
     let (kind, after) = cut_word(line.as_bytes());
     let (Some(name), Some(blob)) = (signing_name(kind), base64_of(alloc, cut_word(after).0)?) else {

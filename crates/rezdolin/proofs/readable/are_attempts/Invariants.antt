@@ -4,4 +4,4 @@ use Rattle.rezdolin.specs.Readable.{IsAttempt}
 use Rattle.rezdolin.proofs.readable.are_attempts.Given as goal
 
 abbrev pub invariant-loop-attempt : goal.invariant-loop-attempt
-invariant-loop-attempt l = AllByRecursion IsAttempt (take l.attempt-index l.plan)
+invariant-loop-attempt l = AllByRecursion (IsAttempt l.asks) (take l.attempt-index l.plan)

@@ -1,0 +1,37 @@
+"""A server on its standard input and output: it accepts one user, by a password or a key, greets the user and closes.
+
+    python3 server.py HOST-KEY USER SECRET
+
+HOST-KEY is a file with the 32 bytes of the private key; or @ and the path of a public key, as ssh-keygen writes it, by which the agent
+of SSH_AUTH_SOCK signs. SECRET is the password, or @ and the path of the user's public key.
+"""
+import hmac
+import sys
+
+from agent import Agent, string
+from client import Standard, bytes_of, carry, public_key_of
+from rezdolin import Key, Password, Server, Signed
+
+
+def main(host_key, user, secret):
+    kind, accepted = (Key, public_key_of(secret[1:])) if secret.startswith('@') else (Password, secret.encode())
+
+    def decide(question):
+        if question.kind == 'signature':
+            return Agent().sign(question)
+        # by the kind of the proof first: a password may be any bytes, those of a public key too
+        is_by = isinstance(question.proof, kind) and hmac.compare_digest(question.proof.bytes, accepted)
+        return is_by and question.user == user.encode()
+
+    server = Server(Signed(public_key_of(host_key[1:])) if host_key.startswith('@') else bytes_of(host_key))
+    carry(server, Standard, decide)
+    if server.is_authenticated:
+        link = server.link()
+        Standard.sendall(link.seal(b'\1\0\0\0\x0b' + string(b'hello ' + link.user) + string(b'')))
+        print(link.user.decode(), 'from', link.peer_version.decode(), file=sys.stderr)
+    else:
+        print(f'end {server.end}: F{server.fault} {server.detail}', file=sys.stderr)
+
+
+if __name__ == '__main__':
+    main(*sys.argv[1:])

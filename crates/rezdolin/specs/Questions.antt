@@ -1,0 +1,43 @@
+-- Questions, as bytes, and how an endpoint that asks stands.
+
+use Rattle.std.specs.Prelude.{ℕ, List, [], ◌∷◌, Option, None, Some}
+use Rattle.sshwire.specs.Types.{uint32}
+use Rattle.sshcore.specs.EndData.{EndData}
+use Rattle.sshcore.specs.EndpointParts.{KeyProof, NoProof, PasswordProof, ProofData}
+use Rattle.sshcore.specs.Questions.{HostKeyQuestion, QuestionData, SignatureQuestion, UserQuestion}
+use Rattle.rezdolin.specs.declared.answers.EndNumbers.{EndNumbers}
+use Rattle.rezdolin.specs.declared.answers.TheConstants.{ASKS_HOST_KEY, ASKS_SIGNATURE, ASKS_USER, END_ASKS}
+use Rattle.rezdolin.specs.declared.inputs.TheConstants.{METHOD_NONE, METHOD_PASSWORD, METHOD_PUBLICKEY}
+use Rattle.rezdolin.specs.Answers.{end_numbers, three}
+use Rattle.rezdolin.specs.Records.{strings}
+
+-- the number of the method by which a request proves its user
+abbrev pub method_of : ProofData → ℕ
+method_of NoProof = METHOD_NONE
+method_of (PasswordProof password) = METHOD_PASSWORD
+method_of (KeyProof algorithm key) = METHOD_PUBLICKEY
+
+-- The fields of a question: what it asks of; the request's number, user and service, of a host key none; the method by which the request
+-- proves its user; the algorithm and the key; and the password, or what is to be signed.
+abbrev pub proof_fields : ProofData → List (List ℕ)
+proof_fields NoProof = uint32 (method_of NoProof) ∷ [] ∷ [] ∷ [] ∷ []
+proof_fields (PasswordProof password) = uint32 (method_of (PasswordProof password)) ∷ [] ∷ [] ∷ password ∷ []
+proof_fields (KeyProof algorithm key) = uint32 (method_of (KeyProof algorithm key)) ∷ algorithm ∷ key ∷ [] ∷ []
+
+abbrev pub question_fields : QuestionData → List (List ℕ)
+question_fields (HostKeyQuestion algorithm key) = (ASKS_HOST_KEY ∷ []) ∷ [] ∷ [] ∷ [] ∷ [] ∷ algorithm ∷ key ∷ [] ∷ []
+question_fields (UserQuestion number user service proof) = (ASKS_USER ∷ []) ∷ uint32 number ∷ user ∷ service ∷ proof_fields proof
+question_fields (SignatureQuestion number algorithm key input) = (ASKS_SIGNATURE ∷ []) ∷ [] ∷ [] ∷ [] ∷ [] ∷ algorithm ∷ key ∷ input ∷ []
+
+-- as bytes, and none where nothing is asked
+abbrev pub question_bytes : QuestionData → List ℕ
+question_bytes question = strings (question_fields question)
+
+abbrev pub told_question : Option QuestionData → List ℕ
+told_question None = []
+told_question (Some question) = question_bytes question
+
+-- how an endpoint that asks has ended: it asks, or as one that asks nobody
+abbrev pub told_end : EndData → Option QuestionData → EndNumbers
+told_end end None = end_numbers end
+told_end end (Some question) = three END_ASKS 0 0

@@ -1,0 +1,59 @@
+//! The frame round the record of an endpoint, by which a call tells whether its parts are those of the call before.
+
+ghost use Rattle.std.specs.Prelude.{◌≡◌, ◌≢◌, ◌++◌, IfErr, IfOk, List, MatchOption, ℕ};
+ghost use Rattle.rezdolin.specs.declared.frame.FrameFault.TheVariants as frame;
+ghost use Rattle.rezdolin.specs.Frames.{IsFrameFault, framed};
+
+use sshwire::Memory;
+use std::alloc::Global;
+
+/// The version of the frame, as a uint32.
+const VERSION: [u8; 4] = [0, 0, 0, 1];
+
+/// How many bytes a digest has.
+const DIGEST_LEN: usize = 32;
+
+/// Why there is no record in bytes that were handed in.
+#[derive(Clone, Copy)]
+pub(crate) enum FrameFault {
+    /// They are no frame of this version.
+    Record,
+    /// The parts are others than those of the call that wrote them.
+    Parts,
+}
+
+/// The record in a frame with this digest.
+pub(crate) fn text_in<'a>(bytes: &'a [u8], digest: &[u8; 32]) -> Result<&'a [u8], FrameFault>
+    ensures text { IfOk result (λ text. bytes.now ≡ framed digest.now text.now) }
+    ensures refused { IfErr result (λ f. IsFrameFault bytes.now digest.now f) }
+{
+    let Some(rest) = after(bytes, &VERSION) else {
+        return Err(FrameFault::Record);
+    };
+    if rest.len() < DIGEST_LEN {
+        return Err(FrameFault::Record);
+    }
+    let (found, text) = rest.split_at(DIGEST_LEN);
+    if found != digest.as_slice() {
+        return Err(FrameFault::Parts);
+    }
+    Ok(text)
+}
+
+/// What follows these bytes where they stand in front.
+fn after<'a>(bytes: &'a [u8], front: &[u8]) -> Option<&'a [u8]>
+    ensures { MatchOption result ((rest : List ℕ) → bytes.now ≢ front.now ++ rest) (λ rest. bytes.now ≡ front.now ++ rest.now) }
+{
+    bytes.strip_prefix(front)
+}
+
+/// The record in its frame.
+pub(crate) fn frame(alloc: Global, digest: &[u8; 32], text: &[u8]) -> Result<Vec<u8>, Memory>
+    ensures { IfOk result (λ v. v.items ≡ framed digest.now text.now) }
+{
+    let mut out = Vec::new(alloc);
+    out.extend_from_slice(&VERSION)?;
+    out.extend_from_slice(digest)?;
+    out.extend_from_slice(text)?;
+    Ok(out)
+}
