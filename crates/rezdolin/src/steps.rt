@@ -212,6 +212,7 @@ fn reply_to(alloc: Global, ready: &Ready<'_>, text: &[u8], reply: Reply<'_>) -> 
 {
     let mut endpoint = ready.config.resume(alloc, text)?;
     if !is_for(&reply, &endpoint.question()) {
+        drop(endpoint);
         return Err(NoStep::Unasked);
     }
     let mut sent = Vec::new(alloc);
@@ -411,9 +412,13 @@ fn still_open(
     ensures asks { IfOk result (λ c. asked_by endpoint.entry ≡ None → c.end.end ≢ END_ASKS) }
     ensures opens { IfOk result (λ c. c.end.end ≡ END_OPEN → (asking_end endpoint.entry ≡ Open) × (asked_by endpoint.entry ≡ None)) }
 {
-    let asked = asked_of(alloc, &endpoint)?;
+    // What may have failed is looked at when the endpoint is given up.
+    let told = asked_of(alloc, &endpoint);
     let paused = endpoint.pause();
-    let text = text_of(alloc, &paused)?;
+    let written = text_of(alloc, &paused);
+    drop(paused);
+    let asked = told?;
+    let text = written?;
     let record = frame(alloc, digest, &text)?;
     Ok(Came {
         used,
