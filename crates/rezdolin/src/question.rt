@@ -1,6 +1,6 @@
 //! The question that an endpoint asks, as bytes.
 
-ghost use Rattle.std.specs.Prelude.{◌≡◌, ◌++◌, IfOk, OnOk};
+ghost use Rattle.std.specs.Prelude.{◌≡◌, ◌++◌, IfOk, OnOk, ℕ};
 ghost use Rattle.sshcore.specs.EndpointPartsView.{proof_data};
 ghost use Rattle.sshcore.specs.Questions.{HostKeyQuestion, SignatureQuestion, UserQuestion};
 ghost use Rattle.sshcore.specs.QuestionsView.{question_data};
@@ -28,11 +28,11 @@ pub(crate) fn question_record(alloc: Global, question: &Question<'_>) -> Result<
             proof,
         } => user_record(alloc, *number, user, service, proof),
         Question::Signature {
-            number,
             algorithm,
             blob,
             input,
-        } => signature_record(alloc, *number, algorithm, blob, input),
+            ..
+        } => signature_record(alloc, algorithm, blob, input),
     }
 }
 
@@ -67,17 +67,16 @@ fn user_record(
     Ok(out)
 }
 
-/// The record of a question for a signature, which no endpoint of these parts asks: the suite holds each of their keys.
+/// The record of a question for a signature: by which algorithm and key, and what is to be signed. Its number isn't told, since one
+/// signature alone is asked for at a time.
 fn signature_record(
     alloc: Global,
-    number: usize,
     algorithm: &str,
     blob: &[u8],
     input: &[u8],
 ) -> Result<Vec<u8>, Memory>
-    ensures { IfOk result (λ v. v.items ≡ question_bytes (SignatureQuestion number algorithm.now blob.now input.now)) }
+    ensures { IfOk result (λ v. (number : ℕ) → v.items ≡ question_bytes (SignatureQuestion number algorithm.now blob.now input.now)) }
 {
-    let _ = number;
     let mut out = Vec::new(alloc);
     let kind = [ASKS_SIGNATURE as u8];
     let fields: [&[u8]; 7] = [&kind, &[], &[], &[], &[], algorithm.as_bytes(), blob];
