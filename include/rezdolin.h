@@ -22,7 +22,8 @@
  *   3. USE A RECORD FOR ONE ANSWERED CALL, and then only the next one. If you use a record twice and send what came of both, two
  *      packets are sealed with one key and one number: who listens can read and forge packets.
  *   4. ALL PARTS OF A CONNECTION ARE THE SAME IN ALL ITS CALLS: lists, keys, draws, users. A list that was read anew between two
- *      calls is another list. A call with other parts is REZDOLIN_PARTS.
+ *      calls is another list. A call with other parts is REZDOLIN_PARTS. A step that only holds a part of a packet looks neither at
+ *      parts nor at the rest of the record; the next step that does more is refused then, and so is one by no bytes.
  *   5. KEEP A RECORD AS YOU KEEP A PRIVATE KEY: never send it to a peer, and never keep it where another can read or write it.
  *      WHOEVER CAN READ A RECORD HAS THE KEYS of the connection, can read the session and forge packets, and may get a password.
  *      WHOEVER CAN CHANGE A RECORD CAN MAKE IT ONE OF AN AUTHENTICATED USER: nothing in it is signed. One that was changed is
@@ -36,9 +37,9 @@
  *      entry. `next`, `out` and `told` overlap neither each other nor anything that is read. Nothing else is asked of a caller:
  *      whatever the bytes and numbers are, a call ends, and touches no other memory.
  *
- * A call's work is that of the parts, the record and the piece, however much came before; the record holds an unfinished packet, so
- * read what there is, rather than byte by byte. Calls of several threads share nothing; for one connection make one call after the
- * other.
+ * A call's work is that of the parts, the record and the piece, however much came before. That of a step that only holds a part of a
+ * packet is to copy the record. The record holds an unfinished packet, so read what there is, rather than byte by byte. Calls of
+ * several threads share nothing; for one connection make one call after the other.
  *
  * Link librezdolin.a and then liblibc_c.a, which ties it to malloc, realloc and free. docs/USING.md has tables of the codes C1 and so
  * on ("Refused configs"), and F1 and so on ("Why it ended"). */

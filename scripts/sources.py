@@ -1,7 +1,7 @@
 """The definitions of specs/ and the public clauses that cite them, as `check_documents` reads them."""
 import re, os, glob, sys
 
-CRATES = ['sshwire', 'sshpacket', 'sshmsg', 'sshneg', 'sshcore', 'sshworld', 'sshpromises', 'sshsuite', 'sshsuites', 'sshlab', 'sshidentity', 'rezdolin']
+CRATES = ['sshwire', 'sshpacket', 'sshmsg', 'sshneg', 'sshcore', 'sshworld', 'sshpromises', 'sshkeccak', 'sshmlkem', 'sshsuite', 'sshsuites', 'sshlab', 'sshidentity', 'rezdolin']
 
 
 def definitions(root):

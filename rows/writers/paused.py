@@ -6,7 +6,7 @@ import deployed
 from receiver import fields_of
 from requests import is_name
 
-VERSION = 1
+VERSION = 2
 PHASES = ("kexinit", "exchange", "newkeys", "service", "auth")
 MPINT, OCTETS, HYBRID = range(3)
 LINE_LIMIT, PACKET_LIMIT, DIGEST_LIMIT, BLOB_LIMIT, TRIES_LIMIT = 255, 35000, 64, 8192, 20
@@ -21,7 +21,8 @@ class Unreadable(Exception):
 class Record:
     """What stands in a record; at first that of an endpoint which has received nothing. Keys are a Keys of lab.py or None; algorithms
     eight names or None; `lines` how many other lines are taken and the unfinished one, or None; `packets` keys, number and the unfinished
-    packet; `waiting` the number and the payload of a packet or None."""
+    packet; `waiting` the number and the payload of a packet or None; `suite` what it is written over; `missing` how many bytes more are
+    wanted, where that isn't what they are."""
 
     def __init__(self, role, left=0, **parts):
         self.role, self.confirmed, self.left, self.phase, self.guess = role, True, left, 0, False
@@ -30,6 +31,7 @@ class Record:
         self.pending, self.own_version, self.host_key, self.user_key = None, b"", b"", None
         self.keys, self.number = None, 1
         self.lines, self.packets, self.waiting = (20 if role == CLIENT else 0, b""), None, None
+        self.suite, self.missing = Lab, None
         self.put(**parts)
 
     def put(self, **parts):
@@ -39,19 +41,32 @@ class Record:
         return self
 
     def text(self):
-        out = [VERSION, int(self.role == SERVER), self.confirmed, self.left, self.phase, self.guess]
+        missing = self.wanted(self.suite) if self.missing is None else self.missing
+        out = [VERSION, missing, self.held(), int(self.role == SERVER), self.confirmed, self.left, self.phase, self.guess]
         out += [self.form, self.strict, self.first, self.version, self.kexinit, self.session, *maybe(self.algorithms)]
         out += [self.request, *maybe(None if self.allowance is None else [self.allowance])]
         out += [self.user, self.service, self.password, self.publickey]
         out += [*maybe(parts_of(self.pending)), self.own_version, self.host_key, *maybe(self.user_key)]
         out += [*maybe(parts_of(self.keys)), self.number]
         if self.lines:
-            out += [0, *self.lines]
+            out += [0, self.lines[0]]
         else:
-            keys, number, held = self.packets
-            out += [1, *maybe(parts_of(keys)), number, held]
+            keys, number, _ = self.packets
+            out += [1, *maybe(parts_of(keys)), number]
         out += maybe(self.waiting)
         return b"".join(string(x) if isinstance(x, bytes) else u32(x) for x in out)
+
+    def held(self):
+        """The bytes of the unfinished line or packet."""
+        return self.lines[1] if self.lines else self.packets[2]
+
+    def wanted(self, suite):
+        """How many bytes more are wanted before anything comes of them: up to the end of the field of the packet's length, then up to the
+        packet's end; none of a line, of which each byte is looked at, and none where a packet waits."""
+        if self.lines or self.waiting:
+            return 0
+        keys, number, held = self.packets
+        return max(0, whole_len(suite, keys, number, held) - len(held))
 
 
 def maybe(parts):
@@ -115,7 +130,8 @@ class Text:
 
     def record(self):
         self.number()
-        r = Record((CLIENT, SERVER)[self.number(2)])
+        missing, held = self.number(), self.bytes()
+        r = Record((CLIENT, SERVER)[self.number(2)], missing=missing)
         r.confirmed, r.left, r.phase, r.guess = self.flag(), self.number(), self.number(5), self.flag()
         r.form, r.strict, r.first = self.number(3), self.flag(), self.flag()
         r.version, r.kexinit, r.session = self.most(LINE_LIMIT), self.most(PACKET_LIMIT), self.most(DIGEST_LIMIT)
@@ -126,9 +142,9 @@ class Text:
         r.user_key = self.maybe(lambda: (self.utf8(), self.bytes()))
         r.keys, r.number = self.maybe(self.keys), self.number()
         if self.number(2):
-            r.lines, r.packets = None, (self.maybe(self.keys), self.number(), self.bytes())
+            r.lines, r.packets = None, (self.maybe(self.keys), self.number(), held)
         else:
-            r.lines = (self.number(), self.bytes())
+            r.lines = (self.number(), held)
         r.waiting = self.maybe(lambda: (self.number(), self.most(PACKET_LIMIT)))
         if self.rest:
             raise Unreadable
@@ -241,18 +257,25 @@ def fits(r, party):
     else:
         reads_on = is_unfinished(party.suite, *r.packets)
     idle = r.lines is None and r.packets[2] == b""
-    return reads_on and (r.waiting is None or idle and asks(r, party, r.waiting[1]))
+    return reads_on and r.missing == r.wanted(party.suite) and (r.waiting is None or idle and asks(r, party, r.waiting[1]))
+
+
+def whole_len(suite, keys, number, held):
+    """How many bytes there are once more is judged of the packet that begins with these (RFC 4253 section 6): its length, or it."""
+    if len(held) < 4:
+        return 4
+    first = suite.head(keys, number, held[:4]) if keys else held[:4]
+    return 4 + int.from_bytes(first, "big") + (suite.TAG if keys else 0)
 
 
 def is_unfinished(suite, keys, number, held):
-    """Whether the bytes are the first of a packet whose length is taken (RFC 4253 section 6), and not all of it."""
+    """Whether the bytes are the first of a packet whose length is taken, and not all of it."""
     if len(held) < 4:
         return True
-    first, tag, block, counted = held[:4], 0, 8, 4
-    if keys:
-        first, tag, block, counted = suite.head(keys, number, first), suite.TAG, suite.block(keys.cipher), suite.COUNTED
-    n = int.from_bytes(first, "big")
-    return n >= 8 + counted and (n + counted) % block == 0 and 4 + n + tag <= PACKET_LIMIT and len(held) < 4 + n + tag
+    tag, block, counted = (suite.TAG, suite.block(keys.cipher), suite.COUNTED) if keys else (0, 8, 4)
+    whole = whole_len(suite, keys, number, held)
+    n = whole - 4 - tag
+    return n >= 8 + counted and (n + counted) % block == 0 and whole <= PACKET_LIMIT and len(held) < whole
 
 
 def has_place(r, number, waits):

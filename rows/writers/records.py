@@ -222,7 +222,7 @@ def over_deployed(file):
     c, s = t.c, t.s
     request_ = c.send(by_none())
     r = Record(SERVER, phase=4, form=paused.OCTETS, strict=True, first=False, version=TEXT, kexinit=t.ci, session=t.hash, algorithms=chosen, own_version=TEXT,
-               host_key=KEY, keys=keys[SERVER], number=s.seq, lines=None, packets=(keys[CLIENT], c.seq - 1, request_[:21]))
+               host_key=KEY, keys=keys[SERVER], number=s.seq, lines=None, packets=(keys[CLIENT], c.seq - 1, request_[:21]), suite=Deployed)
     setting = ["server %s %s" % x for x in (("kex", "curve25519-sha256"), ("hostkey", "ssh-ed25519 " + bytes(range(32)).hex()), ("cipher_cs", CIPHER), ("cipher_sc", CIPHER))]
     file.row("a server over deployed algorithms is spoilt within a sealed packet", setting, "waiting server deployed", feed(t.c_first, t.c_init, t.c_newkeys, t.c_service),
              says(t.s_first, t.s_reply, t.s_newkeys, t.s_accept), feed(request_[:21]), judged(r, Party(SERVER, Deployed)), feed(request_[21:]), user(1, "none"),
@@ -243,7 +243,7 @@ def others(file):
             lines += takes(r.text())
         last = seen[-1][1]
         with_ = lambda **parts: copy.deepcopy(last).put(**parts).text()
-        lines += takes(b"", u32(0), u32(1), u32(2), b"\x00\x00\x00", u32(2) + last.text()[4:], u32(0) + last.text()[4:], bytes(200))
+        lines += takes(b"", u32(0), u32(1), u32(2), u32(3), b"\x00\x00\x00", u32(1) + last.text()[4:], u32(3) + last.text()[4:], u32(0) + last.text()[4:], bytes(200))
         # of the other role, and of another config
         lines += takes(*(r.text() for _, _, _, _, r in (server(t) if role == CLIENT else client(t))))
         other_ = Talk(strict=False, guess=True, crossed=True)
@@ -260,6 +260,10 @@ def others(file):
         clear = lambda held: with_(packets=(None, 0, held))
         lines += takes(*(clear(held) for held in (b"", u32(12), u32(12) + bytes(11), u32(12) + b"\x04\x02" + bytes(10), u32(11), u32(4), u32(34996), u32(34988),
                                                   u32(35004), b"\xff" * 3, b"\xff" * 4)))
+        # how many bytes are missing
+        lines += takes(*(with_(packets=(None, 0, held), missing=n) for held, n in ((b"", 4), (b"", 0), (b"", 5), (b"\x00", 3), (b"\x00", 4), (u32(12), 12), (u32(12), 11),
+                                                                                  (u32(12), 4), (u32(12) + bytes(11), 1), (u32(12) + bytes(11), 2 ** 32 - 1))),
+                       with_(lines=(3, b"x"), missing=0), with_(lines=(3, b"x"), missing=1), with_(waiting=(7, by_none()), missing=4))
         waits = lambda payload, number=7, **parts: with_(waiting=(number, payload), **parts)
         lines += takes(*(waits(payload) for payload in (b"", by_none(), by_query(), failure(), SUCCESS, pk_ok(), reply(t.hash), INIT, b"\x32", b"\x02" + string(b""))),
                        waits(by_none(), 2 ** 32 - 1), waits(by_none(), guess=True), waits(by_none() + b"\x00"), waits(by_none(service_name="odd")),

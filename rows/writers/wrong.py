@@ -153,8 +153,9 @@ def records(file, t):
     file.row("a server takes a client's record", start, "takes m " + Record(CLIENT).text().hex(), end)
     file.row("a client refuses its own record", "waiting client", says(t.c_first), "takes u " + Record(CLIENT).text().hex(), end)
     file.row("a record is another one's", start, "takes o " + text.hex(), end)
-    file.row("a record of version 2 is unreadable", start, "takes u " + (u32(2) + text[4:]).hex(), end)
-    file.row("a record of version 2 is taken", start, "takes m " + (u32(2) + text[4:]).hex(), end)
+    for version in (1, 3):
+        file.row("a record of version %d is unreadable" % version, start, "takes u " + (u32(version) + text[4:]).hex(), end)
+        file.row("a record of version %d is taken" % version, start, "takes m " + (u32(version) + text[4:]).hex(), end)
     file.row("three bytes are of another version", start, "takes v 000000", end)
     for word in (right, "spoilt 01 " + spoilt(text, 1, party), "cuts", "takes m " + text.hex()):
         file.row("%s at one whose decisions answer" % word.split(" ")[0], "begin server", says(t.s_first), word, end)

@@ -1,7 +1,8 @@
 -- Calls that are chained.
 
-use Rattle.std.proofs.Common.{◌≡◌, ◌≢◌, ◌∙◌, ℕ, List, [], ◌∷◌, ◌++◌, None, Some, append_assoc, ap, inl, inr, refl, subst, sym}
+use Rattle.std.proofs.Common.{◌≡◌, ◌≢◌, ◌∙◌, ℕ, List, [], ◌∷◌, ◌++◌, None, Some, append_assoc, ap, inl, inr, refl, subst, sym, take}
 use Rattle.std.proofs.lemmas.List.{append-nil}
+use Rattle.std.proofs.Math.Seq.{take-length}
 use Rattle.sshcore.specs.EndData.{end_data}
 use Rattle.sshcore.specs.EndpointParts.{DecisionsData}
 use Rattle.sshcore.specs.Questions.{AnswerData, decided}
@@ -31,7 +32,14 @@ module _ (parts : Parts) (d : DecisionsData) (allowed : AreAllowed parts d) wher
   -- one call more
   one_more : (h s : List ℕ) (before : Came) (call : Call) → StandsAs parts d h s before → before.record.items ≢ [] → IsNext parts d before call
       → StandsAs parts d (h ++ used_by call) (s ++ (came_of call).sent.items) (came_of call)
-  one_more h s before (Stepped piece came) stands some next = next.2.1 d allowed h s (here h s before stands some)
+  one_more h s before (Stepped piece came) stands some (inl reads) = reads.2.1 d allowed h s (here h s before stands some)
+  one_more h s before (Stepped piece came) stands some (inr holds) =
+      let all : take came.used piece ≡ piece = ap (λ (n : ℕ). take n piece) holds.all ∙ take-length piece in
+      let by = holds.stands parts d h s (here h s before stands some) in
+      subst (λ (x : List ℕ). StandsAs parts d (h ++ x) (s ++ came.sent.items) came) (sym all)
+      (subst (λ (x : List ℕ). StandsAs parts d (h ++ piece) (s ++ x) came) (sym holds.none_sent)
+      (subst (λ (x : List ℕ). StandsAs parts d (h ++ piece) x came) (sym (append-nil s))
+      (inl (None, by, holds.end_is, holds.none_told))))
   one_more h s before (Replied number signature came) stands some next =
       next.0.3.1 d allowed h s (asking h s before number signature next.0.0 stands next.1 next.2 next.0.1 (decisions_of parts d))
 

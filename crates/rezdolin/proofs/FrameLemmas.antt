@@ -32,10 +32,13 @@ pub cut_here : (n : ℕ) (b found text : List ℕ) → found ≡ take n b → te
 cut_here n b found text f t = sym (ap (λ (l : List ℕ). l ++ text) f ∙ (ap (λ (l : List ℕ). take n b ++ l) t ∙ take-append-drop n b))
 
 -- another digest
-pub frame_other : (bytes rest found text digest : List ℕ) → bytes ≡ (0 ∷ 0 ∷ 0 ∷ 1 ∷ []) ++ rest → found ≡ take 32 rest → text ≡ drop 32 rest → length found ≡ 32
-    → (found ≡ digest → ⊥) → (other : List ℕ) × IsFrameOf bytes other × (other ≢ digest)
-frame_other bytes rest found text digest p f t len unlike =
-    (found, (len, (text, p ∙ ap (λ (l : List ℕ). (0 ∷ 0 ∷ 0 ∷ 1 ∷ []) ++ l) (cut_here 32 rest found text f t))), unlike)
+pub frame_other : (bytes found text digest : List ℕ) → bytes ≡ framed found text → length found ≡ 32 → (found ≡ digest → ⊥)
+    → (other : List ℕ) × IsFrameOf bytes other × (other ≢ digest)
+frame_other bytes found text digest is len unlike = (found, (len, (text, is)), unlike)
+
+-- a version, and what is cut after it
+pub frame_here : (bytes rest found text : List ℕ) → bytes ≡ (0 ∷ 0 ∷ 0 ∷ 1 ∷ []) ++ rest → found ≡ take 32 rest → text ≡ drop 32 rest → bytes ≡ framed found text
+frame_here bytes rest found text p f t = p ∙ ap (λ (l : List ℕ). (0 ∷ 0 ∷ 0 ∷ 1 ∷ []) ++ l) (cut_here 32 rest found text f t)
 
 -- what was seen to differ
 pub differs : (a b c : List ℕ) (t r : Bool) → Decides t (a ≡ b) → r ≡ true → r ≡ not t → b ≡ c → a ≡ c → ⊥

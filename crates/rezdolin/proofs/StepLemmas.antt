@@ -23,6 +23,7 @@ use Rattle.sshcore.specs.Questions.{AnswerData, Decided, HostKeyQuestion, Questi
 use Rattle.sshcore.specs.declared.question.Question.{Question}
 use Rattle.sshcore.specs.QuestionsView.{question_data}
 use Rattle.sshcore.specs.Record.{IsRecordOf}
+use Rattle.sshcore.specs.RecordHolding.{IsHolding}
 use Rattle.sshcore.specs.RecordMade.{GoesOnFrom, IsAsFar}
 use Rattle.rezdolin.specs.Trust.{trust_policy}
 use Rattle.sshcore.specs.Sessions.{IsSession}
@@ -440,6 +441,36 @@ length_digest (parts.Server server) = length-sha256 (server_text server.now [])
 own_only : (parts : Parts) (bytes text digest other : List ℕ) → digest ≡ digest_of parts → bytes ≡ framed digest text → IsFrameOf bytes other → other ≡ digest_of parts
 own_only parts bytes text digest other digest_is framed_is f =
     frame_one other (digest_of parts) bytes f (length_digest parts, (text, framed_is ∙ ap (λ (l : List ℕ). framed l text) digest_is))
+
+-- A record that holds more bytes, in the frame of the one before it: whatever parts that was written for.
+own_setup : (parts : Parts) (d : DecisionsData) → setup_with deployed d (setup_of parts d).role (setup_of parts d).config ≡ setup_of parts d
+own_setup (parts.Client client) d = refl
+own_setup (parts.Server server) d = refl
+
+module _ (bytes piece digest text new_text written : List ℕ) (framed_is : bytes ≡ framed digest text) (len : length digest ≡ 32) (written_is : written ≡ framed digest new_text)
+    (holds : (role : Side) (party : ConfigData) (suite : DeployedSuite) (p : PausedData DeployedSuite) → IsRecordOf text p → FitsPaused means role party suite p → IsHolding means role party suite piece new_text p) where
+  pub holds_so : (parts : Parts) (d : DecisionsData) (h s : List ℕ) → StandsHere (digest_of parts) bytes (setup_of parts d) h s
+      → StandsBy (setup_of parts d) (digest_of parts) written None (h ++ piece) s
+  holds_so parts d h s stood =
+      let setup = setup_of parts d in
+      let by = stood.1 in
+      let r = by.recorded in
+      let one : digest ≡ digest_of parts = frame_one digest (digest_of parts) bytes (len, (text, framed_is)) (length_digest parts, (by.text, by.framed_is)) in
+      let same : by.text ≡ text = frame_cut digest by.text text bytes (by.framed_is ∙ ap (λ (l : List ℕ). framed l by.text) (sym one)) framed_is in
+      let more = holds setup.role setup.config r.suite r.endpoint (subst (λ (l : List ℕ). IsRecordOf l r.endpoint) same r.is_record) r.fits in
+      record {
+        text = new_text;
+        framed_is = written_is ∙ ap (λ (l : List ℕ). framed l new_text) one;
+        recorded = record {
+          endpoint = more.endpoint;
+          suite = r.suite;
+          is_record = more.is_record;
+          fits = more.fits;
+          after = subst (λ (x : Setup). PausedAfter x more.endpoint (h ++ piece) s) (own_setup parts d)
+              (more.after d h s (subst (λ (x : Setup). PausedAfter x r.endpoint h s) (sym (own_setup parts d)) r.after));
+        };
+        asks = more.asks;
+      }
 
 -- why there is no record in a frame
 pub why_frame : (parts : Parts) (bytes digest : List ℕ) (f : FrameFault) → digest ≡ digest_of parts → IsFrameFault bytes digest f → WhyNotFrom parts bytes (frame_step f)

@@ -139,16 +139,30 @@ abbrev pub Tells : Came → StepAnswer → List ℕ → List ℕ → List ℕ �
 Tells came answer out next told new_out new_next new_told =
     IsToldOf came answer out next told new_out new_next new_told ⊎ LacksRoom came answer out next told new_out new_next new_told
 
+-- A call of whose bytes nothing comes but that they are held, since the endpoint is within a packet and wants more of it than these before
+-- it looks at it again. It looks at no parts: whatever parts the record was written for, their endpoint has received all these bytes more,
+-- has sent nothing more, is open and asks nothing, and this is its record.
+pub record Holds (bytes piece : List ℕ) (came : Came) : Type 0 where
+  pub all : came.used ≡ length piece
+  pub none_sent : came.sent.items ≡ []
+  pub end_is : came.end ≡ three END_OPEN 0 0
+  pub none_told : came.told.items ≡ []
+  pub stands : (parts : Parts) (d : DecisionsData) (h s : List ℕ) → StandsHere (digest_of parts) bytes (setup_of parts d) h s
+      → StandsBy (setup_of parts d) (digest_of parts) came.record.items None (h ++ piece) s
+
 -- what calls come to that begin an endpoint, go on with bytes, of which all are used while it is open and asks nothing, go on with an
 -- answer, or disconnect
 abbrev pub Begins : Parts → Came → Type 0
 Begins parts came = (came.used ≡ 0) × ComesTo parts Starts [] came.sent.items came.end came.record.items came.told.items
 
-abbrev pub GoesOn : Parts → List ℕ → List ℕ → Came → Type 0
-GoesOn parts bytes piece came =
+abbrev pub ReadsOn : Parts → List ℕ → List ℕ → Came → Type 0
+ReadsOn parts bytes piece came =
     (came.used ≤ length piece)
     × (came.end.end ≡ END_OPEN → came.used ≡ length piece)
     × ComesTo parts (StandsHere (digest_of parts) bytes) (take came.used piece) came.sent.items came.end came.record.items came.told.items
+
+abbrev pub GoesOn : Parts → List ℕ → List ℕ → Came → Type 0
+GoesOn parts bytes piece came = ReadsOn parts bytes piece came ⊎ Holds bytes piece came
 
 abbrev pub IsAnsweredBy : Parts → List ℕ → ℕ → List ℕ → Came → Type 0
 IsAnsweredBy parts bytes number signature came =

@@ -13,14 +13,14 @@ ghost use Rattle.sshcore.specs.QuestionsView.{question_data};
 ghost use Rattle.sshcore.specs.Record.{IsRecordOf};
 ghost use Rattle.rezdolin.specs.Carried.{CarriesOn, IsReadOn};
 ghost use Rattle.rezdolin.specs.Endpoints.{Trusts, digest_of, means};
-ghost use Rattle.rezdolin.specs.Steps.{Begins, ComesTo, Disconnects, GoesOn, IsAnswered, IsAnsweredBy, IsReply, StandsNow, is_for};
+ghost use Rattle.rezdolin.specs.Steps.{Begins, ComesTo, Disconnects, GoesOn, Holds, IsAnswered, IsAnsweredBy, IsReply, ReadsOn, StandsNow, is_for};
 ghost use Rattle.rezdolin.specs.declared.answers.TheConstants.{END_ASKS, END_OPEN};
 ghost use Rattle.rezdolin.specs.declared.steps.NoStep.TheVariants as no;
 ghost use Rattle.rezdolin.specs.StepsView.{IsReady, WhyNoAnswer, WhyNoLeave, WhyNoReply, WhyNot, WhyNotFrom, frame_step, record_step, reply_data};
 ghost use Rattle.rezdolin.specs.Trust.{trust_policy};
 
 use crate::answers::{END_ASKS, END_DISCONNECTED, END_OPEN, EndNumbers, end_numbers, numbers};
-use crate::frame::{FrameFault, frame, text_in};
+use crate::frame::{FrameFault, frame, frame_in, text_in};
 use crate::inputs::{ANSWER_NO, ANSWER_NO_SIGNATURE, ANSWER_SIGNATURE, ANSWER_YES};
 use crate::parts::NoConfig;
 use crate::parts_of::{Config, Parts};
@@ -165,6 +165,9 @@ pub(crate) fn stepped(
     ensures came { IfOk result (GoesOn parts.now «record».now piece.now) }
     ensures refused { IfErr result (λ f. WhyNotFrom parts.now «record».now f) }
 {
+    if let Some(came) = hold(alloc, record, piece)? {
+        return Ok(came);
+    }
     let ready = prepare(alloc, parts)?;
     let text = text_in(record, &ready.digest)?;
     let came = step(alloc, &ready, text, piece);
@@ -172,9 +175,34 @@ pub(crate) fn stepped(
     came
 }
 
+/// What a call came to of whose bytes nothing comes but that they are held; none where something may come of them, and where there
+/// are none, so that a step by no bytes looks at parts and record. This looks at no parts.
+fn hold(alloc: Global, record: &[u8], piece: &[u8]) -> Result<Option<Came>, Memory>
+    ensures { IfOk result (λ o. IfSome o (Holds «record».now piece.now)) }
+{
+    if piece.is_empty() {
+        return Ok(None);
+    }
+    let Some(found) = frame_in(record) else {
+        return Ok(None);
+    };
+    let text = PausedEndpoint::<DeployedSuite>::record_holding(alloc, found.text, piece)?;
+    let Some(text) = text else {
+        return Ok(None);
+    };
+    let record = frame(alloc, found.digest, &text)?;
+    Ok(Some(Came {
+        used: piece.len(),
+        sent: Vec::new(alloc),
+        end: numbers(END_OPEN, 0, 0),
+        record,
+        told: Vec::new(alloc),
+    }))
+}
+
 /// The same of what a call has of its parts, and of the record out of its frame.
 fn step(alloc: Global, ready: &Ready<'_>, text: &[u8], piece: &[u8]) -> Result<Came, NoStep>
-    ensures came { IfOk result (λ c. (parts : Parts) (bytes : List ℕ) → IsReady parts ready.now → bytes ≡ framed ready.now.digest text.now → GoesOn parts bytes piece.now c) }
+    ensures came { IfOk result (λ c. (parts : Parts) (bytes : List ℕ) → IsReady parts ready.now → bytes ≡ framed ready.now.digest text.now → ReadsOn parts bytes piece.now c) }
     ensures refused { IfErr result (λ f. (parts : Parts) (bytes : List ℕ) → IsReady parts ready.now → bytes ≡ framed ready.now.digest text.now → WhyNotFrom parts bytes f) }
 {
     let mut endpoint = ready.config.resume(alloc, text)?;

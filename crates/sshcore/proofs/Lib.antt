@@ -23,6 +23,7 @@ pub mod StandingLemmas
 pub mod StreamLemmas
 pub mod KeyedLemmas
 pub mod HistoryLemmas
+pub mod HoldingLemmas
 pub mod OneHistory
 pub mod JoinedHistory
 pub mod FormLemmas

@@ -52,21 +52,26 @@ refused_some parser inc rest piece zero r e f =
 refused_some parser inc rest piece (suc used) r e f = omega arith
 
 module _ (below : Below) (streams : Streams) (setup : Setup) (r q : PacketReader) (kept : StateData) (piece before after : List ℕ) (is : kept.end ≡ Open) where
-  -- more bytes are wanted
-  pub packets_part : ahead setup.suite (packet_reader_data r) piece ≡ unfinished → packet_reader_data q ≡ record (packet_reader_data r) { held = (packet_reader_data r).held ++ piece }
-      → Steps setup (input.Packets r) kept (input.Packets q) kept (take (length piece) piece) before before
-  packets_part e left h s a =
+  -- more bytes are wanted: all that came are held
+  pub packets_held : ahead setup.suite (packet_reader_data r) piece ≡ unfinished → packet_reader_data q ≡ record (packet_reader_data r) { held = (packet_reader_data r).held ++ piece }
+      → (h s : List ℕ) → EndpointStands setup kept (input.Packets r) h s → EndpointStands setup kept (input.Packets q) (h ++ piece) s
+  packets_held e left h s a =
       let i = within below streams setup kept (input.Packets r) h s is a in
       let x = i.reads in
       let seen : parsers setup.suite setup.role setup.config a.units (a.rest ++ piece) ≡ unfinished = read_as setup.suite setup.role setup.config a.units x.0 x.1 a.rest piece (packet_reader_data r) x.2 x.3 ∙ e in
       let held : packet_reader_data q ≡ record { keys = keys_in setup.suite setup.role setup.config x.0 x.1; seq = number_in setup.role setup.config x.1; held = a.rest ++ piece; fault = None } =
       left ∙ ap (λ (t : PacketReaderData). record t { held = t.held ++ piece }) x.3 in
+      stands_part below streams setup kept (input.Packets r) h s is a (input.Packets q) piece seen (x.0, x.1, x.2, held)
+
+  pub packets_part : ahead setup.suite (packet_reader_data r) piece ≡ unfinished → packet_reader_data q ≡ record (packet_reader_data r) { held = (packet_reader_data r).held ++ piece }
+      → Steps setup (input.Packets r) kept (input.Packets q) kept (take (length piece) piece) before before
+  packets_part e left h s a =
       record {
         added = [];
         appended = sym (append-nil before);
         stands = subst (λ (t : List ℕ). EndpointStands setup kept (input.Packets q) (h ++ t) (s ++ [])) (sym (take-length piece))
             (subst (λ (t : List ℕ). EndpointStands setup kept (input.Packets q) (h ++ piece) t) (sym (append-nil s))
-            (stands_part below streams setup kept (input.Packets r) h s is a (input.Packets q) piece seen (x.0, x.1, x.2, held)));
+            (packets_held e left h s a));
         uncut = open_stays kept.end is;
       }
 

@@ -9,7 +9,7 @@ use Rattle.sshpacket.specs.KeysData.{KeysData}
 use Rattle.sshcore.specs.declared.record_reading.RecordReader.{RecordReader}
 use Rattle.sshcore.specs.RecordReads.{Reads}
 use Rattle.sshcore.specs.RecordData.{OfLines, OfPackets, ReaderRecord}
-use Rattle.sshcore.specs.RecordText.{bytes_text, flag_text, keys_text, number_text, option_text, reader_text}
+use Rattle.sshcore.specs.RecordText.{flag_text, keys_text, number_text, option_text, reader_text}
 
 -- of two strings that stand at one place both are the same
 pub string_one : (s x new rest old text : List ℕ) → StringText s text → old ≡ text ++ new → length x < 2 ^ 32 → old ≡ string x ++ rest → (s ≡ x) × (new ≡ rest)
@@ -45,7 +45,7 @@ pub record Lines (x : ReaderRecord) (old new : RecordReader) (rest : List ℕ) :
   pub others : ℕ
   pub line : List ℕ
   pub is : x ≡ OfLines others line
-  pub left : new.reader ≡ number_text others (bytes_text line rest)
+  pub left : new.reader ≡ number_text others rest
   pub whole : new.is_whole ≡ old.is_whole
 
 pub record Packets (x : ReaderRecord) (old new : RecordReader) (rest : List ℕ) : Type 0 where
@@ -53,20 +53,20 @@ pub record Packets (x : ReaderRecord) (old new : RecordReader) (rest : List ℕ)
   pub number : ℕ
   pub held : List ℕ
   pub is : x ≡ OfPackets keys number held
-  pub left : new.reader ≡ option_text keys_text keys (number_text number (bytes_text held rest))
+  pub left : new.reader ≡ option_text keys_text keys (number_text number rest)
   pub whole : new.is_whole ≡ old.is_whole
 
 module _ (old new : RecordReader) (flag : Bool) (reads : Reads flag_text (λ _. ⊤) old flag new) where
   pub lines_there : (x : ReaderRecord) (rest : List ℕ) → flag ≡ false → old.reader ≡ reader_text x rest → Lines x old new rest
   lines_there (OfLines others line) rest off e =
-      let read = reads false (number_text others (bytes_text line rest)) tt e in
+      let read = reads false (number_text others rest) tt e in
       record { others = others; line = line; is = refl; left = read.1; whole = read.2 }
   lines_there (OfPackets keys number held) rest off e =
-      absurd (true≢false (sym (reads true (option_text keys_text keys (number_text number (bytes_text held rest))) tt e).0 ∙ off))
+      absurd (true≢false (sym (reads true (option_text keys_text keys (number_text number rest)) tt e).0 ∙ off))
 
   pub packets_there : (x : ReaderRecord) (rest : List ℕ) → flag ≡ true → old.reader ≡ reader_text x rest → Packets x old new rest
   packets_there (OfLines others line) rest on e =
-      absurd (true≢false (sym on ∙ (reads false (number_text others (bytes_text line rest)) tt e).0))
+      absurd (true≢false (sym on ∙ (reads false (number_text others rest) tt e).0))
   packets_there (OfPackets keys number held) rest on e =
-      let read = reads true (option_text keys_text keys (number_text number (bytes_text held rest))) tt e in
+      let read = reads true (option_text keys_text keys (number_text number rest)) tt e in
       record { keys = keys; number = number; held = held; is = refl; left = read.1; whole = read.2 }

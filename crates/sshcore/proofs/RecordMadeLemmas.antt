@@ -1,6 +1,6 @@
 -- What is made of the record of an endpoint is the same endpoint.
 
-use Rattle.std.proofs.Common.{◌≡◌, ◌∙◌, ◌-◌, ℕ, List, [], Bool, Option, None, Some, ap, drop, inl, length, option_map, subst, sym}
+use Rattle.std.proofs.Common.{◌≡◌, ◌∙◌, ◌-◌, ℕ, List, [], Bool, Option, None, Some, ap, drop, inl, length, option_map, refl, subst, sym}
 use Rattle.sshneg.specs.declared.side.Side.{Side}
 use Rattle.sshpacket.specs.Suite.{SuiteData}
 use Rattle.sshcore.specs.declared.record_parts.RecordParts.{RecordParts}
@@ -8,6 +8,8 @@ use Rattle.sshcore.specs.declared.state.State.{State}
 use Rattle.sshwire.specs.LineReaderData.{Progress, Waits, others_left, unfinished}
 use Rattle.sshwire.specs.declared.line_form.LineForm.{LineForm}
 use Rattle.sshpacket.specs.PacketReaderData.{PacketReaderData, packet_reader_data}
+use Rattle.sshpacket.specs.Parse.{protection}
+use Rattle.sshpacket.specs.ReaderSteps.{needed}
 use Rattle.sshpacket.specs.declared.fault.PacketFault.{PacketFault}
 use Rattle.sshcore.specs.declared.input.Input.{Input}
 use Rattle.sshcore.specs.declared.input.Input.TheVariants as input
@@ -20,10 +22,10 @@ use Rattle.sshcore.specs.EndData.{EndData}
 use Rattle.sshcore.specs.EndpointParts.{ConfigData}
 use Rattle.sshcore.specs.Exchanged.{HasForm}
 use Rattle.sshcore.specs.Paused.{PausedData, kept_by, kept_with, with_left}
-use Rattle.sshcore.specs.Record.{HasLine, reader_of, record_of}
-use Rattle.sshcore.specs.RecordData.{ReaderRecord, RecordData}
-use Rattle.sshcore.specs.RecordMade.{FitsState, IsInputOf, IsReaderOf, IsReading, IsRecorded, IsSameInput, state_in}
-use Rattle.sshcore.specs.RecordView.{reader_record, record_data}
+use Rattle.sshcore.specs.Record.{HasLine, missing_by, packet_of, reader_of, record_of, wanted}
+use Rattle.sshcore.specs.RecordData.{OfLines, OfPackets, ReaderRecord, RecordData}
+use Rattle.sshcore.specs.RecordMade.{FitsState, IsInputOf, IsReaderOf, IsReading, IsRecorded, IsSameInput, missing_in, state_in, wants}
+use Rattle.sshcore.specs.RecordView.{packet_record, reader_record, record_data}
 use Rattle.sshcore.specs.StateData.{StateData, left_of, state_data}
 
 pub none_some : {A : Type 0} (o : Option A) (a : A) → o ≡ None → o ≡ Some a → ⊥
@@ -39,6 +41,20 @@ mapped_none f o is = ap (λ x. option_map f x) is
 reads_so : (m : SuiteData) (i : Input) → CanRead m i → IsReaderOf m (reader_of i)
 reads_so m (input.Lines q) reads = tt
 reads_so m (input.Packets q) reads = reads.unfinished_is
+
+-- a reader of packets wants as many bytes more as its record says
+missing_at : (m : SuiteData) (i : Input) (w : Option WaitingData) → CanRead m i → missing_by i w ≡ missing_in m (reader_of i) (option_map packet_of w)
+missing_at m (input.Lines q) None reads = refl
+missing_at m (input.Packets q) None reads = ap (λ (n : ℕ). n - length (packet_reader_data q).held) reads.knows
+missing_at m i (Some w) reads = refl
+
+pub wanted_so : (m : SuiteData) (form : LineForm) (r : ReaderRecord) (i : Input) → CanRead m i → IsInputOf form r i → wanted i ≡ wants m r
+wanted_so m form (OfLines left line) (input.Lines q) reads is = refl
+wanted_so m form (OfLines left line) (input.Packets q) reads is = absurd is
+wanted_so m form (OfPackets keys number held) (input.Lines q) reads is = absurd is
+wanted_so m form (OfPackets keys number held) (input.Packets q) reads is =
+    ap (λ (n : ℕ). n - length (packet_reader_data q).held) reads.knows
+    ∙ ap (λ (x : PacketReaderData). needed (protection m x.keys x.seq) x.held - length x.held) is
 
 -- a reader that is as another holds nothing where that does
 idle_so : (form : LineForm) (i j : Input) → IsInputOf form (reader_of i) j → IsIdle i → IsIdle j
@@ -110,6 +126,12 @@ module _ {S : Type 0} (meaning : S → SuiteData) (role : Side) (party : ConfigD
         subst HasLine same r.is_record.texts.line,
         subst (λ (x : ReaderRecord). IsReaderOf (meaning suite) x) same (reads_so (meaning suite) p.input (r.fits.fits.reads (inl r.is_record.is_open))),
       )
+
+  pub missing_so : (parts : RecordParts) → record_data parts ≡ record_of p
+      → parts.missing ≡ missing_in (meaning suite) (reader_record parts.reader) (option_map packet_record parts.waiting)
+  missing_so parts told =
+      ap (λ (x : RecordData). x.missing) told ∙ (missing_at (meaning suite) p.input p.waiting (r.fits.fits.reads (inl r.is_record.is_open))
+      ∙ sym (ap (λ (x : RecordData). missing_in (meaning suite) x.reader x.waiting) told))
 
   pub input_so : (parts : RecordParts) (form : LineForm) (i : Input) → record_data parts ≡ record_of p → IsInputOf form (reader_record parts.reader) i → IsInputOf form (reader_of p.input) i
   input_so parts form i told is = subst (λ (x : ReaderRecord). IsInputOf form x i) (ap (λ (x : RecordData). x.reader) told) is

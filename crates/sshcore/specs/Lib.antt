@@ -62,6 +62,7 @@ pub mod RecordText
 pub mod RecordView
 pub mod RecordReads
 pub mod Record
+pub mod RecordHolding
 pub mod RecordMade
 pub mod AskingBeside
 pub mod Dialogue

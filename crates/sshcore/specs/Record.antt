@@ -1,12 +1,12 @@
 -- What stands in the record of a paused endpoint; what its names and texts are; and which bytes are its record.
 
-use Rattle.std.specs.Prelude.{◌≡◌, ◌≤◌, ℕ, List, length, Result, Ok, Err, IfSome, IsUtf8, option_map}
+use Rattle.std.specs.Prelude.{◌≡◌, ◌≤◌, ℕ, List, length, Result, Ok, Err, IfSome, IsUtf8, Option, None, Some, option_map}
 use Rattle.sshwire.specs.Lines.{IsUnfinished}
 use Rattle.sshwire.specs.Types.{IsName}
 use Rattle.sshwire.specs.LineReaderData.{others_left, unfinished}
 use Rattle.sshneg.specs.Fields.{AlgorithmsData}
 use Rattle.sshpacket.specs.KeysData.{KeysData}
-use Rattle.sshpacket.specs.PacketReaderData.{PacketReaderData, packet_reader_data}
+use Rattle.sshpacket.specs.PacketReaderData.{PacketReaderData, missing_of, packet_reader_data}
 use Rattle.sshcore.specs.declared.input.Input.{Input}
 use Rattle.sshcore.specs.declared.input.Input.TheVariants as input
 use Rattle.sshcore.specs.declared.record_fault.RecordFault.{RecordFault}
@@ -42,11 +42,22 @@ abbrev pub reader_of : Input → ReaderRecord
 reader_of (input.Lines r) = OfLines (others_left r.state.progress) (unfinished r.state.progress)
 reader_of (input.Packets r) = packets_of (packet_reader_data r)
 
+-- How many bytes more a reader wants before anything comes of them: of lines none, since each is looked at.
+abbrev pub wanted : Input → ℕ
+wanted (input.Lines r) = 0
+wanted (input.Packets r) = missing_of r
+
+-- and where a packet waits for its answer none is read
+abbrev pub missing_by : Input → Option WaitingData → ℕ
+missing_by i None = wanted i
+missing_by i (Some w) = 0
+
 abbrev pub packet_of : WaitingData → PacketRecord
 packet_of w = record { number = w.packet; payload = w.payload }
 
 abbrev pub record_of : {S : Type 0} → PausedData S → RecordData
 record_of p = record {
+  missing = missing_by p.input p.waiting;
   role = p.role;
   confirmed = p.state.confirmed;
   left = p.left;

@@ -34,15 +34,21 @@ pub data ReaderRecord : Type 0 where
   OfLines : ℕ → List ℕ → ReaderRecord
   OfPackets : Option KeysData → ℕ → List ℕ → ReaderRecord
 
+-- the bytes of the unfinished line or packet
+abbrev pub held_in : ReaderRecord → List ℕ
+held_in (OfLines left line) = line
+held_in (OfPackets keys number held) = held
+
 -- a packet that waits: its number and its payload; what it asks is told by these
 pub record PacketRecord : Type 0 where
   pub number : ℕ
   pub payload : List ℕ
 
--- Its role; whether the first attempt that is left was confirmed, and how many are left; its phase, and whether the packet of a wrong
--- guess is due; what it knows; what it carries along, and what it sends packets with; its reader; and the packet that waits, where one
--- does.
+-- How many bytes more it wants before anything comes of them; its role; whether the first attempt that is left was confirmed, and how
+-- many are left; its phase, and whether the packet of a wrong guess is due; what it knows; what it carries along, and what it sends packets
+-- with; its reader; and the packet that waits, where one does.
 pub record RecordData : Type 0 where
+  pub missing : ℕ
   pub role : Side
   pub confirmed : Bool
   pub left : ℕ

@@ -1,12 +1,13 @@
 -- What is made of a record, part by part; and that the endpoint which is made goes on from where the record was written.
 
-use Rattle.std.specs.Prelude.{ℕ, List, ◌≡◌, ◌≤◌, IfSome, IsUtf8, [], None, Option, Some, Result, is_some, length}
+use Rattle.std.specs.Prelude.{ℕ, List, ◌≡◌, ◌≤◌, ◌-◌, IfSome, IsUtf8, [], None, Option, Some, Result, is_some, length}
 use Rattle.sshwire.specs.declared.limits.TheConstants.{LINE_LIMIT}
 use Rattle.sshpacket.specs.declared.limits.TheConstants.{DIGEST_LIMIT, PACKET_LIMIT}
 use Rattle.sshwire.specs.LineReaderData.{Waits}
 use Rattle.sshwire.specs.declared.line_form.LineForm.{LineForm}
 use Rattle.sshpacket.specs.PacketReaderData.{packet_reader_data}
 use Rattle.sshpacket.specs.Parse.{parse_packet, protection, unfinished}
+use Rattle.sshpacket.specs.ReaderSteps.{needed}
 use Rattle.sshpacket.specs.Suite.{SuiteData}
 use Rattle.sshcore.specs.declared.input.Input.{Input}
 use Rattle.sshcore.specs.declared.input.Input.TheVariants as input
@@ -24,7 +25,7 @@ use Rattle.sshcore.specs.EndData.{Open}
 use Rattle.sshcore.specs.EndpointParts.{ConfigData, DecisionsData, Setup, setup_with}
 use Rattle.sshcore.specs.Paused.{FitsPaused, PausedAfter, PausedData, asked_paused, kept_by}
 use Rattle.sshcore.specs.Record.{HasKeyNames, HasNames, HasUserText, IsMadeSo, IsRecordOf}
-use Rattle.sshcore.specs.RecordData.{AuthenticationRecord, ExchangeRecord, OfLines, OfPackets, ReaderRecord, RecordData}
+use Rattle.sshcore.specs.RecordData.{AuthenticationRecord, ExchangeRecord, OfLines, OfPackets, PacketRecord, ReaderRecord, RecordData}
 use Rattle.sshcore.specs.StateData.{Carried, StateData, algorithms_or, reached_data, user_key_data}
 
 -- what an endpoint in this phase may know of the exchange
@@ -98,6 +99,15 @@ state_in r = record {
 abbrev pub IsReaderOf : SuiteData → ReaderRecord → Type 0
 IsReaderOf m (OfLines left line) = Unit {0}
 IsReaderOf m (OfPackets keys number held) = parse_packet (protection m keys number) held ≡ unfinished
+
+-- how many bytes more it wants, and 0 where a packet waits
+abbrev pub wants : SuiteData → ReaderRecord → ℕ
+wants m (OfLines left line) = 0
+wants m (OfPackets keys number held) = needed (protection m keys number) held - length held
+
+abbrev pub missing_in : SuiteData → ReaderRecord → Option PacketRecord → ℕ
+missing_in m reader None = wants m reader
+missing_in m reader (Some packet) = 0
 
 -- a reader as the record says, of lines by this form
 abbrev pub IsInputOf : LineForm → ReaderRecord → Input → Type 0

@@ -15,7 +15,7 @@ use Rattle.sshcore.specs.declared.table.Phase.TheVariants as phase
 use Rattle.sshcore.specs.EndpointParts.{UserKeyData}
 use Rattle.sshcore.specs.Output.{Sending}
 use Rattle.sshcore.specs.Reached.{ReachedData}
-use Rattle.sshcore.specs.RecordData.{AuthenticationRecord, ExchangeRecord, OfLines, OfPackets, PacketRecord, ReaderRecord, RecordData}
+use Rattle.sshcore.specs.RecordData.{AuthenticationRecord, ExchangeRecord, OfLines, OfPackets, PacketRecord, ReaderRecord, RecordData, held_in}
 use Rattle.sshcore.specs.StateData.{Carried}
 
 abbrev pub number_text : ℕ → List ℕ → List ℕ
@@ -84,20 +84,27 @@ abbrev pub sending_text : Sending → List ℕ → List ℕ
 sending_text s rest = option_text keys_text s.keys (number_text s.number rest)
 
 abbrev pub reader_text : ReaderRecord → List ℕ → List ℕ
-reader_text (OfLines left line) rest = number_text 0 (number_text left (bytes_text line rest))
-reader_text (OfPackets keys number held) rest = number_text 1 (option_text keys_text keys (number_text number (bytes_text held rest)))
+reader_text (OfLines left line) rest = number_text 0 (number_text left rest)
+reader_text (OfPackets keys number held) rest = number_text 1 (option_text keys_text keys (number_text number rest))
 
--- in front stand the version of records, the role, whether the first attempt that is left was confirmed, how many are left, the phase, and
--- whether the packet of a wrong guess is due
+-- in front stand the version of records, how many bytes more are wanted before anything comes of them, and the bytes of the unfinished
+-- line or packet
+abbrev pub waits_text : ℕ → List ℕ → List ℕ → List ℕ
+waits_text missing held rest = number_text RECORD_VERSION (number_text missing (bytes_text held rest))
+
+-- then the role, whether the first attempt that is left was confirmed, how many are left, the phase, and whether the packet of a wrong
+-- guess is due
 abbrev pub front_text : RecordData → List ℕ → List ℕ
 front_text r rest =
-    number_text RECORD_VERSION (number_text (role_number r.role) (flag_text r.confirmed (number_text r.left
-    (number_text (phase_number r.phase) (flag_text r.guess rest)))))
+    number_text (role_number r.role) (flag_text r.confirmed (number_text r.left (number_text (phase_number r.phase) (flag_text r.guess rest))))
 
-abbrev pub record_text : RecordData → List ℕ → List ℕ
-record_text r rest =
+abbrev pub body_text : RecordData → List ℕ → List ℕ
+body_text r rest =
     front_text r (exchange_text r.exchange (authentication_text r.authentication (carried_text r.carried (sending_text r.sending
     (reader_text r.reader (option_text packet_text r.waiting rest))))))
+
+abbrev pub record_text : RecordData → List ℕ → List ℕ
+record_text r rest = waits_text r.missing (held_in r.reader) (body_text r rest)
 
 abbrev pub record_bytes : RecordData → List ℕ
 record_bytes r = record_text r []
@@ -159,10 +166,12 @@ pub record FitsSending (s : Sending) : Type 0 where
   pub number : s.number < 2 ^ 32
 
 abbrev pub FitsReader : ReaderRecord → Type 0
-FitsReader (OfLines left line) = (left < 2 ^ 32) × IsShort line
-FitsReader (OfPackets keys number held) = IfSome keys FitsKeys × (number < 2 ^ 32) × IsShort held
+FitsReader (OfLines left line) = left < 2 ^ 32
+FitsReader (OfPackets keys number held) = IfSome keys FitsKeys × (number < 2 ^ 32)
 
 pub record FitsRecord (r : RecordData) : Type 0 where
+  pub missing : r.missing < 2 ^ 32
+  pub held : IsShort (held_in r.reader)
   pub left : r.left < 2 ^ 32
   pub exchange : FitsExchange r.exchange
   pub authentication : FitsAuthentication r.authentication

@@ -75,6 +75,7 @@ packet_record w = record { number = w.number; payload = w.payload.now }
 
 abbrev pub record_data : RecordParts → RecordData
 record_data r = record {
+  missing = r.missing;
   role = r.role;
   confirmed = r.confirmed;
   left = r.left;

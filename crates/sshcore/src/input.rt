@@ -16,6 +16,7 @@ ghost use Rattle.sshcore.specs.Brings.{Gives, IsOngoing};
 ghost use Rattle.sshcore.specs.EndpointConfig.{config_data, setup_of};
 ghost use Rattle.sshcore.specs.EndData.{Failed, Open, by_input, end_data, fails};
 ghost use Rattle.sshcore.specs.Inputs.{Begins, CanRead, Steps, held_by, turns_left};
+ghost use Rattle.sshcore.specs.Record.{wanted};
 ghost use Rattle.sshcore.specs.ReceivesLines.{EndsBy, MayReadOn, ReceivesLines, used_by};
 ghost use Rattle.sshcore.specs.Replies.{fault_of};
 ghost use Rattle.sshcore.specs.StateData.{state_data};
@@ -59,6 +60,16 @@ impl Input {
         match self {
             Input::Lines(reader) => reader.buffered(),
             Input::Packets(reader) => reader.buffered(),
+        }
+    }
+
+    /// How many bytes more are wanted before anything comes of them: 0 of lines, of which each byte is looked at.
+    pub(crate) fn wanted(&self) -> usize
+        ensures { result ≡ wanted self.now }
+    {
+        match self {
+            Input::Lines(_) => 0,
+            Input::Packets(reader) => reader.missing(),
         }
     }
 

@@ -64,6 +64,7 @@ mod reaching;
 mod record;
 mod record_endpoint;
 mod record_fault;
+mod record_holding;
 mod record_input;
 mod record_making;
 mod record_parts;

@@ -3,7 +3,7 @@
 ghost use Rattle.std.specs.Prelude.{◌≡◌, IfOk, IfSome, IsUtf8, is_some, option_map, true};
 ghost use Rattle.sshcore.specs.EndData.{Open};
 ghost use Rattle.sshcore.specs.Paused.{paused_end};
-ghost use Rattle.sshcore.specs.Record.{HasKeyNames, HasLine, HasNames, HasTexts, HasUserText, IsRecordOf, authentication_of, exchange_of, packet_of, reader_of, record_of};
+ghost use Rattle.sshcore.specs.Record.{HasKeyNames, HasLine, HasNames, HasTexts, HasUserText, IsRecordOf, authentication_of, exchange_of, missing_by, packet_of, reader_of, record_of};
 ghost use Rattle.sshcore.specs.RecordView.{authentication_record, carried_record, exchange_record, lent_keys, lent_names, packet_record, reader_record, record_data, sending_record};
 ghost use Rattle.sshcore.specs.StateData.{state_data};
 ghost use Rattle.sshcore.specs.WaitingView.{waiting_of};
@@ -139,6 +139,16 @@ fn reader_parts(input: &Input) -> ReaderParts<'_>
     }
 }
 
+/// How many bytes more are wanted before anything comes of them.
+fn missing_by(input: &Input, waiting: &Option<Waiting>) -> usize
+    ensures { result ≡ missing_by input.now (waiting_of waiting.now) }
+{
+    match waiting {
+        None => input.wanted(),
+        Some(_) => 0,
+    }
+}
+
 /// The packet that waits.
 fn waiting_parts(waiting: &Option<Waiting>) -> Option<WaitingParts<'_>>
     ensures { option_map packet_record result ≡ option_map packet_of (waiting_of waiting.now) }
@@ -159,8 +169,12 @@ impl<S> PausedEndpoint<S> {
         let Ok(left) = u32::try_from(self.left) else {
             return None;
         };
+        let Ok(missing) = u32::try_from(missing_by(&self.input, &self.waiting)) else {
+            return None;
+        };
         let state = &self.state;
         Some(RecordParts {
+            missing,
             role: self.role,
             confirmed: state.confirmed,
             left,

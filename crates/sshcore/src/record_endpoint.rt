@@ -76,7 +76,7 @@ fn endpoint_of<S: Suite>(
     }
     let left = parts.left as usize;
     let state = state.with_left(last_of(config.plan(), left), parts.confirmed);
-    let input = input_of(alloc, &parts.reader, suite, config.line_form())?;
+    let input = input_of(alloc, &parts, suite, config.line_form())?;
     let waiting = waiting_by(&config, suite, &state, &input, parts.waiting)?;
     Ok(PausedEndpoint::with(config, suite, input, state, left, waiting))
 }

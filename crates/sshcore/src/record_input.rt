@@ -1,19 +1,19 @@
 //! What an endpoint reads its bytes with, made again from a record.
 
-ghost use Rattle.std.specs.Prelude.{◌≡◌, IfOk, None};
+ghost use Rattle.std.specs.Prelude.{◌≡◌, IfOk, None, option_map};
 ghost use Rattle.sshwire.specs.LineReaderData.{Waits};
 ghost use Rattle.sshwire.specs.Lines.{IsUnfinished};
 ghost use Rattle.sshpacket.specs.PacketReaderData.{ReaderWaits, packet_reader_data};
 ghost use Rattle.sshpacket.specs.Parse.{parse_packet, protection, unfinished};
 ghost use Rattle.sshcore.specs.Inputs.{CanRead};
 ghost use Rattle.sshcore.specs.Record.{HasLine, IsMadeSo};
-ghost use Rattle.sshcore.specs.RecordMade.{IsInputOf, IsReaderOf};
-ghost use Rattle.sshcore.specs.RecordView.{reader_record};
+ghost use Rattle.sshcore.specs.RecordMade.{IsInputOf, IsReaderOf, missing_in};
+ghost use Rattle.sshcore.specs.RecordView.{packet_record, reader_record};
 
 use crate::input::Input;
 use crate::record_fault::RecordFault;
 use crate::record_making::optional_keys;
-use crate::record_parts::ReaderParts;
+use crate::record_parts::{ReaderParts, RecordParts};
 use sshpacket::{Keys, PacketFault, PacketReader, PacketStep, Suite};
 use sshwire::{LineForm, PeerLineReader};
 use std::alloc::Global;
@@ -57,8 +57,31 @@ fn packets_of<S: Suite>(
     Ok(reader)
 }
 
-/// What bytes are read with.
+/// What bytes are read with. It wants as many bytes more as the record says; where a packet waits that is none.
 pub(crate) fn input_of<S: Suite>(
+    alloc: Global,
+    parts: &RecordParts<'_>,
+    suite: &S,
+    form: LineForm,
+) -> Result<Input, RecordFault>
+    ensures reads { IfOk result (λ i. CanRead (S.meaning suite.now) i) }
+    ensures made { HasLine (reader_record parts.now.reader) → IsReaderOf (S.meaning suite.now) (reader_record parts.now.reader)
+        → parts.now.missing ≡ missing_in (S.meaning suite.now) (reader_record parts.now.reader) (option_map packet_record parts.now.waiting)
+        → IsMadeSo (IsInputOf form (reader_record parts.now.reader)) result }
+{
+    let input = reader_of(alloc, &parts.reader, suite, form)?;
+    let missing = match parts.waiting {
+        None => input.wanted(),
+        Some(_) => 0,
+    };
+    if missing != parts.missing as usize {
+        return Err(RecordFault::Unreadable);
+    }
+    Ok(input)
+}
+
+/// The reader that holds what the record says.
+fn reader_of<S: Suite>(
     alloc: Global,
     parts: &ReaderParts<'_>,
     suite: &S,

@@ -1,5 +1,9 @@
 //! What the record of a paused endpoint has, lent.
 
+ghost use Rattle.std.specs.Prelude.{◌≡◌};
+ghost use Rattle.sshcore.specs.RecordData.{held_in};
+ghost use Rattle.sshcore.specs.RecordView.{reader_record};
+
 use crate::table::Phase;
 use sshneg::Side;
 use sshpacket::ShareForm;
@@ -89,6 +93,18 @@ pub(crate) enum ReaderParts<'a> {
     },
 }
 
+impl<'a> ReaderParts<'a> {
+    /// The unfinished bytes.
+    pub(crate) fn held(&self) -> &'a [u8]
+        ensures { result.now ≡ held_in (reader_record self.now) }
+    {
+        match self {
+            ReaderParts::Lines { line, .. } => line,
+            ReaderParts::Packets { held, .. } => held,
+        }
+    }
+}
+
 /// The packet that waits for its answer.
 #[derive(Clone, Copy)]
 pub(crate) struct WaitingParts<'a> {
@@ -99,6 +115,8 @@ pub(crate) struct WaitingParts<'a> {
 /// All of it.
 #[derive(Clone, Copy)]
 pub(crate) struct RecordParts<'a> {
+    /// How many bytes more are wanted before anything comes of them.
+    pub(crate) missing: u32,
     pub(crate) role: Side,
     pub(crate) confirmed: bool,
     pub(crate) left: u32,

@@ -1,10 +1,10 @@
 //! Reads the record of a paused endpoint.
 
-ghost use Rattle.std.specs.Prelude.{⊤, ◌≡◌, ◌≢◌, ◌<◌, ◌^◌, IfSome, List, None, Some, false, option_map, true, ℕ};
+ghost use Rattle.std.specs.Prelude.{⊤, ◌≡◌, ◌≢◌, ◌<◌, ◌^◌, IfSome, List, MatchOption, None, Some, false, option_map, true, ℕ};
 ghost use Rattle.sshcore.specs.declared.record_fault.TheConstants.{RECORD_VERSION};
-ghost use Rattle.sshcore.specs.RecordData.{RecordData};
+ghost use Rattle.sshcore.specs.RecordData.{RecordData, held_in};
 ghost use Rattle.sshcore.specs.RecordReads.{Reads};
-ghost use Rattle.sshcore.specs.RecordText.{FitsAuthentication, FitsCarried, FitsExchange, FitsKeys, FitsNames, FitsPacketRecord, FitsReader, FitsRecord, FitsSending, FitsUserKey, IsShort, authentication_text, bytes_text, carried_text, exchange_text, flag_text, form_number, keys_text, names_text, number_text, option_text, packet_text, phase_number, reader_text, record_bytes, record_text, role_number, sending_text, user_key_text};
+ghost use Rattle.sshcore.specs.RecordText.{FitsAuthentication, FitsCarried, FitsExchange, FitsKeys, FitsNames, FitsPacketRecord, FitsReader, FitsRecord, FitsSending, FitsUserKey, IsShort, authentication_text, bytes_text, carried_text, exchange_text, flag_text, form_number, keys_text, names_text, number_text, option_text, packet_text, phase_number, reader_text, record_bytes, record_text, role_number, sending_text, user_key_text, waits_text};
 ghost use Rattle.sshcore.specs.RecordView.{authentication_record, carried_record, exchange_record, lent_keys, lent_names, lent_user_key, packet_record, reader_record, record_data, sending_record};
 
 use crate::record_fault::RECORD_VERSION;
@@ -250,19 +250,17 @@ impl<'a> RecordReader<'a> {
         SendingParts { keys, number }
     }
 
-    /// What bytes are read with.
-    fn reader(&mut self) -> ReaderParts<'a>
-        ensures { Reads reader_text FitsReader self.old (reader_record result) self.new }
+    /// What bytes are read with, where these are unfinished.
+    fn reader(&mut self, held: &'a [u8]) -> ReaderParts<'a>
+        ensures { Reads reader_text (λ r. FitsReader r × (held_in r ≡ held.now)) self.old (reader_record result) self.new }
     {
         if self.flag() {
             let keys = self.keys();
             let number = self.number();
-            let held = self.bytes();
             ReaderParts::Packets { keys, number, held }
         } else {
             let others = self.number();
-            let line = self.bytes();
-            ReaderParts::Lines { others, line }
+            ReaderParts::Lines { others, line: held }
         }
     }
 
@@ -292,6 +290,8 @@ impl<'a> RecordReader<'a> {
         ensures { Reads record_text FitsRecord self.old (record_data result) self.new }
     {
         self.version();
+        let missing = self.number();
+        let held = self.bytes();
         let role = self.role();
         let confirmed = self.flag();
         let left = self.number();
@@ -301,9 +301,10 @@ impl<'a> RecordReader<'a> {
         let authentication = self.authentication();
         let carried = self.carried();
         let sending = self.sending();
-        let reader = self.reader();
+        let reader = self.reader(held);
         let waiting = self.waiting();
         RecordParts {
+            missing,
             role,
             confirmed,
             left,
@@ -330,6 +331,39 @@ pub(crate) fn is_of_other_version(bytes: &[u8]) -> bool
     };
     let version = reader.number();
     reader.is_whole && version != RECORD_VERSION
+}
+
+/// What stands in front of a record, and all that follows it.
+#[derive(Clone, Copy)]
+pub(crate) struct Waits<'a> {
+    /// How many bytes more are wanted before anything comes of them.
+    pub(crate) missing: u32,
+    /// The bytes of the unfinished line or packet.
+    pub(crate) held: &'a [u8],
+    /// What follows.
+    pub(crate) rest: &'a [u8],
+}
+
+/// What stands in front of these bytes, if they begin as a record of this version.
+pub(crate) fn waits_in(bytes: &[u8]) -> Option<Waits<'_>>
+    ensures { (missing : ℕ) (held rest : List ℕ) → missing < 2 ^ 32 → IsShort held → bytes.now ≡ waits_text missing held rest
+        → MatchOption result ⊥ (λ w. (w.missing ≡ missing) × (w.held.now ≡ held) × (w.rest.now ≡ rest)) }
+{
+    let mut reader = RecordReader {
+        reader: Reader::new(bytes),
+        is_whole: true,
+    };
+    reader.version();
+    let missing = reader.number();
+    let held = reader.bytes();
+    if !reader.is_whole {
+        return None;
+    }
+    Some(Waits {
+        missing,
+        held,
+        rest: reader.reader.rest(),
+    })
 }
 
 /// What a record has, if these bytes are one, and nothing else.

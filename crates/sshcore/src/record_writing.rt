@@ -1,7 +1,7 @@
 //! Writes the record of a paused endpoint.
 
-ghost use Rattle.std.specs.Prelude.{◌≡◌, ◌<◌, ◌^◌, IfSome, OnOk, length, option_map};
-ghost use Rattle.sshcore.specs.RecordText.{Adds, FitsAuthentication, FitsCarried, FitsExchange, FitsKeys, FitsNames, FitsPacketRecord, FitsReader, FitsRecord, FitsSending, FitsUserKey, IsShort, authentication_text, bytes_text, carried_text, exchange_text, flag_text, form_number, front_text, keys_text, names_text, number_text, option_text, packet_text, phase_number, reader_text, record_text, role_number, sending_text, user_key_text};
+ghost use Rattle.std.specs.Prelude.{◌≡◌, ◌<◌, ◌^◌, ◌++◌, IfSome, OnOk, length, option_map};
+ghost use Rattle.sshcore.specs.RecordText.{Adds, FitsAuthentication, FitsCarried, FitsExchange, FitsKeys, FitsNames, FitsPacketRecord, FitsReader, FitsRecord, FitsSending, FitsUserKey, IsShort, authentication_text, bytes_text, carried_text, exchange_text, flag_text, form_number, front_text, keys_text, names_text, number_text, option_text, packet_text, phase_number, reader_text, record_text, role_number, sending_text, user_key_text, waits_text};
 ghost use Rattle.sshcore.specs.RecordView.{authentication_record, carried_record, exchange_record, lent_keys, lent_names, lent_user_key, packet_record, reader_record, record_data, sending_record};
 
 use crate::record_fault::RECORD_VERSION;
@@ -150,22 +150,20 @@ fn put_sending(out: &mut Vec<u8>, sending: &SendingParts<'_>) -> Result<(), Memo
     put_number(out, sending.number)
 }
 
-/// Appends what bytes are read with, and the unfinished ones.
+/// Appends what bytes are read with.
 fn put_reader(out: &mut Vec<u8>, reader: &ReaderParts<'_>) -> Result<(), Memory>
     ensures adds { OnOk result (Adds (reader_text (reader_record reader.now)) out.old.items out.new.items) }
     ensures fits { OnOk result (FitsReader (reader_record reader.now)) }
 {
     match reader {
-        ReaderParts::Lines { others, line } => {
+        ReaderParts::Lines { others, .. } => {
             put_number(out, 0)?;
-            put_number(out, *others)?;
-            put_bytes(out, line)
+            put_number(out, *others)
         }
-        ReaderParts::Packets { keys, number, held } => {
+        ReaderParts::Packets { keys, number, .. } => {
             put_number(out, 1)?;
             put_keys(out, *keys)?;
-            put_number(out, *number)?;
-            put_bytes(out, held)
+            put_number(out, *number)
         }
     }
 }
@@ -183,12 +181,35 @@ fn put_waiting(out: &mut Vec<u8>, waiting: Option<WaitingParts<'_>>) -> Result<(
     put_bytes(out, waiting.payload)
 }
 
-/// Appends what stands in front of the parts: the version of records, the role, how far its plan was made, and its phase.
+/// Appends what stands in front: the version of records, how many bytes more are wanted before anything comes of them, and the bytes of
+/// the unfinished line or packet, those that were held and then those that came. 2^32 of them or more are answered as running out of
+/// memory.
+pub(crate) fn put_waits(
+    out: &mut Vec<u8>,
+    missing: u32,
+    held: &[u8],
+    more: &[u8],
+) -> Result<(), Memory>
+    ensures adds { OnOk result (Adds (waits_text missing (held.now ++ more.now)) out.old.items out.new.items) }
+    ensures missing { missing < 2 ^ 32 }
+    ensures held { OnOk result (IsShort (held.now ++ more.now)) }
+{
+    let Ok(len) = u32::try_from(held.len() + more.len()) else {
+        return Err(Memory);
+    };
+    put_number(out, RECORD_VERSION)?;
+    put_number(out, missing)?;
+    put_number(out, len)?;
+    out.extend_from_slice(held)?;
+    out.extend_from_slice(more)?;
+    Ok(())
+}
+
+/// Appends what stands before the parts: the role, how far its plan was made, and its phase.
 fn put_front(out: &mut Vec<u8>, parts: &RecordParts<'_>) -> Result<(), Memory>
     ensures adds { OnOk result (Adds (front_text (record_data parts.now)) out.old.items out.new.items) }
     ensures fits { OnOk result (parts.now.left < 2 ^ 32) }
 {
-    put_number(out, RECORD_VERSION)?;
     put_number(out, number_of_role(parts.role))?;
     put_flag(out, parts.confirmed)?;
     put_number(out, parts.left)?;
@@ -201,6 +222,7 @@ pub(crate) fn put_record(out: &mut Vec<u8>, parts: &RecordParts<'_>) -> Result<(
     ensures adds { OnOk result (Adds (record_text (record_data parts.now)) out.old.items out.new.items) }
     ensures fits { OnOk result (FitsRecord (record_data parts.now)) }
 {
+    put_waits(out, parts.missing, parts.reader.held(), &[])?;
     put_front(out, parts)?;
     put_exchange(out, &parts.exchange)?;
     put_authentication(out, &parts.authentication)?;

@@ -1,7 +1,7 @@
 -- The steps of the packet reader, on plain bytes.
 
-use Rattle.std.proofs.Common.{◌≡◌, ℕ, ◌+◌, ◌-◌, ◌<◌, ◌≤◌, Bool, true, false, List, ◌++◌, length, take, drop, Result, Ok, Err, refl, sym, ap, ◌∙◌, arith}
-use Rattle.std.proofs.lemmas.Bool.{le-ltb, lt-ltb}
+use Rattle.std.proofs.Common.{◌≡◌, ◌⊎◌, inl, inr, ℕ, ◌+◌, ◌-◌, ◌<◌, ◌≤◌, Bool, true, false, List, ◌++◌, length, take, drop, Result, Ok, Err, refl, sym, ap, ◌∙◌, arith}
+use Rattle.std.proofs.lemmas.Bool.{cases_lt, le-ltb, lt-ltb}
 use Rattle.std.proofs.lemmas.List.{append_assoc, length-append, length-take-le, take-append-drop, take-append-le, take_all, take_at}
 use Rattle.std.specs.Prelude.{IfOk}
 use Rattle.sshpacket.specs.declared.fault.PacketFault.{PacketFault}
@@ -119,6 +119,23 @@ waits_counts w held target headed e is = record {
   taken = counts_by w held (is_length w.counts w.block w.tag (w.head (take 4 held))) headed e refl;
   len_is = is ∙ needed_long w held headed;
 }
+
+-- Fewer bytes more than are wanted leave a packet unfinished, and as many wanted in all.
+still_waits_so : (w : ProtectionData) (held more : List ℕ) → parse_packet w held ≡ unfinished → length held + length more < needed w held → (length held < 4) ⊎ (4 ≤ length held)
+    → (parse_packet w (held ++ more) ≡ unfinished) × (needed w (held ++ more) ≡ needed w held)
+still_waits_so w held more e less (inl short) =
+    let few : needed w held ≡ 4 = needed_short w held short in
+    let size : length (held ++ more) ≡ length held + length more = length-append held more in
+    (parse_short w (held ++ more) (omega arith), needed_short w (held ++ more) (omega arith) ∙ sym few)
+still_waits_so w held more e less (inr headed) =
+    let size : length (held ++ more) ≡ length held + length more = length-append held more in
+    let counts = waits_counts w held (needed w held) headed e refl in
+    let told = part_parse w (held ++ more) (needed w held) (counts_on w held (held ++ more) more (needed w held) refl headed counts) (omega arith) (omega arith) in
+    (told.0, sym told.1)
+
+pub still_waits : (w : ProtectionData) (held more : List ℕ) → parse_packet w held ≡ unfinished → length held + length more < needed w held
+    → (parse_packet w (held ++ more) ≡ unfinished) × (needed w (held ++ more) ≡ needed w held)
+still_waits w held more e less = still_waits_so w held more e less (cases_lt (length held) 4)
 
 -- after fewer than four bytes: the first four are not taken, or there are fewer
 pub head_refused : (w : ProtectionData) (piece held new : List ℕ) (used : ℕ) → Fills 4 piece held new used → 4 ≤ length new

@@ -1,7 +1,7 @@
 -- What contracts see of a packet reader, and what it answers, in the terms of the packet at hand: the bytes that it holds and
 -- the piece.
 
-use Rattle.std.specs.Prelude.{◌≡◌, ◌≢◌, ◌⊎◌, ℕ, ◌+◌, ◌%◌, ◌^◌, ◌<◌, ◌≤◌, List, [], ◌++◌, length, take, drop, Option, None, Some, Result, Ok, Err}
+use Rattle.std.specs.Prelude.{◌≡◌, ◌≢◌, ◌⊎◌, ℕ, ◌+◌, ◌-◌, ◌%◌, ◌^◌, ◌<◌, ◌≤◌, List, [], ◌++◌, length, take, drop, Option, None, Some, Result, Ok, Err}
 use Rattle.sshpacket.specs.declared.fault.PacketFault.{PacketFault}
 use Rattle.sshpacket.specs.declared.fault.PacketFault.TheVariants.{Memory}
 use Rattle.sshpacket.specs.declared.reader.PacketReader.{PacketReader}
@@ -39,6 +39,10 @@ spare_room r = r.unfinished.spare
 -- how many bytes the packet at hand must have before more of it is judged, as the reader knows
 unfoldable pub target_len : PacketReader → ℕ
 target_len r = r.target
+
+-- how many bytes more it must have for that
+abbrev pub missing_of : PacketReader → ℕ
+missing_of r = target_len r - length (packet_reader_data r).held
 
 -- how the packet at hand is read
 abbrev pub protection_at : SuiteData → PacketReaderData → ProtectionData

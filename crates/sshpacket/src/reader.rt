@@ -2,7 +2,7 @@
 
 ghost use Rattle.sshpacket.specs.declared.limits.TheConstants.{PACKET_LIMIT};
 ghost use Rattle.sshpacket.specs.declared.room.TheConstants.{ROOM_KEPT};
-ghost use Rattle.std.specs.Prelude.{◌≡◌, ◌≢◌, ◌+◌, ◌++◌, ◌<◌, ◌≤◌, ◌^◌, ℕ, Err, IfErr, IfOk, IfSome, None, Ok, OnErr, Some, drop, length, take};
+ghost use Rattle.std.specs.Prelude.{◌≡◌, ◌≢◌, ◌+◌, ◌++◌, ◌<◌, ◌≤◌, ◌^◌, ℕ, Err, IfErr, IfOk, IfSome, List, None, Ok, OnErr, Some, drop, length, take};
 ghost use Rattle.std.specs.Option.{ForSome};
 ghost use Rattle.sshwire.specs.Types.{IsBytes};
 ghost use Rattle.sshpacket.specs.Parse.{Parse, parse_packet, unfinished, protection};
@@ -65,7 +65,7 @@ impl PacketReader {
     ghost use Rattle.std.specs.Io.BufRead.{Rests};
     ghost use Rattle.sshpacket.specs.KeysData.{KeysData};
     ghost use Rattle.sshpacket.specs.Suite.{SuiteData};
-    ghost use Rattle.sshpacket.specs.PacketReaderData.{Advances, HoldsNothingAfter, IsStep, KeepsLittle, OnlyPacketAnswer, ParseAnswer, PacketAnswer, ReaderLeaves, PacketReaderData, ReaderWaits, Uses, ahead, kept, last_used, spare_room, packet_reader_data};
+    ghost use Rattle.sshpacket.specs.PacketReaderData.{Advances, HoldsNothingAfter, IsStep, KeepsLittle, OnlyPacketAnswer, ParseAnswer, PacketAnswer, ReaderLeaves, PacketReaderData, ReaderWaits, Uses, ahead, kept, last_used, missing_of, spare_room, packet_reader_data};
     ghost use Rattle.sshpacket.specs.contracts.reader.PacketReader.{the_row};
 
     /// A reader at the beginning of the stream: no keys, number 0, nothing held. It takes no memory.
@@ -260,6 +260,18 @@ impl PacketReader {
         ensures faulted { IfSome (packet_reader_data self.now).fault (λ _. result ≡ 0) }
     {
         self.unfinished.len()
+    }
+
+    /// How many bytes more are wanted before more of the packet is judged: up to the end of its length field, and then up to its own
+    /// end. With fewer it stays unfinished. At least 1, and at most `PACKET_LIMIT`; once a fault was found the number means nothing.
+    /// It takes no memory.
+    #[tactic(auto, unfolding(crate::specs::PacketReaderData::packet_reader_data, crate::specs::PacketReaderData::target_len), using(crate::proofs::WaitLemmas::fewer_unfinished))]
+    pub fn missing(&self) -> usize
+        ensures missing { result ≡ missing_of self.now }
+        ensures bounds { (0 < result) × (result ≤ PACKET_LIMIT) }
+        ensures fewer { (m : SuiteData) (piece : List ℕ) → ReaderWaits m self.now → length piece < result → ahead m (packet_reader_data self.now) piece ≡ unfinished }
+    {
+        self.target - self.unfinished.len()
     }
 
     /// The fault that was found, which is answered for good; none as long as packets are read. It takes no memory.

@@ -156,7 +156,9 @@ impl<C: Configures, S: Suite, D: Decisions> Waiting<'_, C, S, D> {
     /// Gives it bytes up to its first question, and answers how many it used: more than there are, where what it
     /// answers isn't what it waits for.
     fn feed_once(&mut self, piece: &[u8], out: &mut Vec<u8>) -> Result<usize, Refused> {
-        self.renew()?;
+        if self.renew_holding(piece)? {
+            return Ok(piece.len());
+        }
         let Ok(fed) = self.endpoint.feed(piece, out) else {
             return Err(Refused::Endpoint);
         };

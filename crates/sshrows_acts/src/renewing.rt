@@ -60,6 +60,26 @@ impl<'a, C: Configures, S: Suite, D: Decisions> Waiting<'a, C, S, D> {
         }
     }
 
+    /// The same before it is given these bytes. Where nothing comes of them but that they are held, it is made of the record that holds
+    /// them: whether it was.
+    pub(crate) fn renew_holding(&mut self, piece: &[u8]) -> Result<bool, Refused> {
+        if !self.renewed || !matches!(self.endpoint.end(), End::Open) {
+            return Ok(false);
+        }
+        let alloc: Global = self.asking.received.questions.alloc;
+        let Some(record) = self.record_again()? else {
+            return Err(Refused::Record("none"));
+        };
+        match PausedEndpoint::<CountedSuite<S>>::record_holding(alloc, &record, piece) {
+            Ok(None) => Ok(false),
+            Ok(Some(holding)) => {
+                self.go_on_by(&holding)?;
+                Ok(true)
+            }
+            Err(_) => Err(Refused::Answer),
+        }
+    }
+
     /// Its record, of which it is made again and goes on. One that has ended has none, and doesn't go on.
     pub(crate) fn record_again(&mut self) -> Result<Option<Vec<u8>>, Refused> {
         let alloc: Global = self.asking.received.questions.alloc;

@@ -54,7 +54,8 @@ returns-in_err-input-clause-made g c = λ p r.
     let parts = c.in-Some.parts in
     let told = some_is (record_data parts) (record_of p) (c.in-Some.ensures (record_of p) r.is_record.written r.is_record.bytes_are) in
     let lines = made.reader_so m role party suite text p r parts told in
-    let so = c.in_err-input.ensures.made lines.0 lines.1 in
+    let missing = made.missing_so m role party suite text p r parts told in
+    let so = c.in_err-input.ensures.made lines.0 lines.1 missing in
     search (so, c.from_residual-in_err-input.ensures, rules)
 
 pub returns-in_err-waiting-clause-made : goal.returns-in_err-waiting-clause-made
@@ -70,7 +71,8 @@ returns-in_err-waiting-clause-made g c = λ p r.
     let kept = made.kept_so m role party suite text p r parts c.in_ok-state.state c.with_left-state.result told so (map attempt_data c.plan.result.now) (map attempt_data c.last_of.result.now)
     c.plan.ensures.plan c.last_of.ensures.last c.with_left-state.ensures.same in
     let lines = made.reader_so m role party suite text p r parts told in
-    let input = made.input_so m role party suite text p r parts c.line_form.result c.in_ok-input.input told (c.in_ok-input.ensures.made lines.0 lines.1) in
+    let missing = made.missing_so m role party suite text p r parts told in
+    let input = made.input_so m role party suite text p r parts c.line_form.result c.in_ok-input.input told (c.in_ok-input.ensures.made lines.0 lines.1 missing) in
     let asked = made.asked_so m role party suite text p r (state_data c.with_left-state.result) c.line_form.result c.in_ok-input.input kept input in
     let waits = c.in_err-waiting.ensures.made p.waiting asked (sym (ap (λ (x : RecordData). x.waiting) told)) in
     search (waits, c.from_residual-in_err-waiting.ensures, rules)
@@ -88,7 +90,8 @@ returns-clause-made g c = λ p r.
     let kept = made.kept_so m role party suite text p r parts c.in_ok-state.state c.with_left-state.result told so (map attempt_data c.plan.result.now) (map attempt_data c.last_of.result.now)
     c.plan.ensures.plan c.last_of.ensures.last c.with_left-state.ensures.same in
     let lines = made.reader_so m role party suite text p r parts told in
-    let input = made.input_so m role party suite text p r parts c.line_form.result c.in_ok-input.input told (c.in_ok-input.ensures.made lines.0 lines.1) in
+    let missing = made.missing_so m role party suite text p r parts told in
+    let input = made.input_so m role party suite text p r parts c.line_form.result c.in_ok-input.input told (c.in_ok-input.ensures.made lines.0 lines.1 missing) in
     let asked = made.asked_so m role party suite text p r (state_data c.with_left-state.result) c.line_form.result c.in_ok-input.input kept input in
     let waits = c.in_ok-waiting.ensures.made p.waiting asked (sym (ap (λ (x : RecordData). x.waiting) told)) in
     record {

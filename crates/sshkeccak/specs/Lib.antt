@@ -1,0 +1,5 @@
+pub mod Repeated
+pub mod Keccak
+pub mod Sponge
+pub mod Padding
+pub mod KeccakNumbers

@@ -1,0 +1,12 @@
+pub mod FieldLemmas
+pub mod NttLemmas
+pub mod BitLemmas
+pub mod TableLemmas
+pub mod ChoiceLemmas
+pub mod Samples
+pub mod Agreement
+pub mod CodingLemmas
+pub mod EncodingLemmas
+pub mod ModulusLemmas
+pub mod SamplingLemmas
+pub mod KeyLemmas

@@ -1,0 +1,10 @@
+pub mod Field
+pub mod Bits
+pub mod Ntt
+pub mod Codec
+pub mod Sample
+pub mod Streams
+pub mod Pke
+pub mod Kem
+pub mod NttNumbers
+pub mod KemBytes
