@@ -64,11 +64,12 @@ typedef struct rezdolin_bytes {
  * {(const uint8_t *)string, strlen(string)}. */
 #define REZDOLIN_TEXT(text) {(const uint8_t *)("" text ""), sizeof("" text "") - 1}
 
-/* Lists of names that the library and peers in use have. The library also has the method diffie-hellman-group14-sha256, and the
- * cipher aes256-gcm@openssh.com, which works where both sides are strict, and is slow. */
-#define REZDOLIN_KEX "curve25519-sha256,curve25519-sha256@libssh.org"
+/* Lists of names that the library and peers in use have. The library also has the method diffie-hellman-group14-sha256. The second
+ * cipher works only where both sides are strict: else the first sealed packet ends the session as F4. A server whose clients aren't
+ * strict and list the second before the first lists the first alone. */
+#define REZDOLIN_KEX "mlkem768x25519-sha256,curve25519-sha256,curve25519-sha256@libssh.org"
 #define REZDOLIN_HOST_KEY "ssh-ed25519"
-#define REZDOLIN_CIPHERS "chacha20-poly1305@openssh.com"
+#define REZDOLIN_CIPHERS "chacha20-poly1305@openssh.com,aes256-gcm@openssh.com"
 #define REZDOLIN_MACS \
     "hmac-sha2-256-etm@openssh.com,hmac-sha2-512-etm@openssh.com,hmac-sha2-256,hmac-sha2-512,hmac-sha1"
 

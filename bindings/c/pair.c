@@ -143,7 +143,7 @@ static void configs(void) {
     rezdolin_bytes *lists[6] = {&s.client.side.kex_algorithms, &s.client.side.encryption_client_to_server,
                                 &s.client.side.encryption_server_to_client, &s.client.server_host_key_algorithms,
                                 &s.server.side.kex_algorithms, &s.server.side.encryption_server_to_client};
-    rezdolin_bytes names[6] = {TEXT("curve25519-sha256,mlkem768x25519-sha256"), TEXT("aes128-ctr"), TEXT("chacha20-poly1305@openssh.com,none"),
+    rezdolin_bytes names[6] = {TEXT("curve25519-sha256,mlkem1024nistp384-sha384"), TEXT("aes128-ctr"), TEXT("chacha20-poly1305@openssh.com,none"),
                                TEXT("ssh-ed25519,ecdsa-sha2-nistp256"), TEXT("ecdh-sha2-nistp256"), TEXT("aes128-gcm@openssh.com")};
     for (int i = 0; i < 6; i++) {
         begin(&s, 14);
@@ -251,7 +251,7 @@ static void records(void) {
                                       && is(field(&s, CLIENT, REZDOLIN_PEER_VERSION), "SSH-2.0-rezdolin"));
     row("user and service", is(field(&s, CLIENT, REZDOLIN_USER), "al") && is(field(&s, SERVER, REZDOLIN_SERVICE), "ssh-connection"));
     row("the host key", equal(field(&s, CLIENT, REZDOLIN_SERVER_KEY), s.trusted));
-    row("algorithms", is(field(&s, CLIENT, REZDOLIN_AGREED_KEX), "curve25519-sha256")
+    row("algorithms", is(field(&s, CLIENT, REZDOLIN_AGREED_KEX), "mlkem768x25519-sha256")
                           && is(field(&s, CLIENT, REZDOLIN_AGREED_HOST_KEY), "ssh-ed25519")
                           && is(field(&s, CLIENT, REZDOLIN_AGREED_ENCRYPTION_CLIENT_TO_SERVER), "chacha20-poly1305@openssh.com")
                           && is(field(&s, CLIENT, REZDOLIN_AGREED_COMPRESSION_SERVER_TO_CLIENT), "none"));

@@ -62,37 +62,55 @@ def x25519(scalar, u):
     return le(x2 * pow(z2, P - 2, P) % P)
 
 
-def public(secret):
-    return x25519(secret, le(9))
+# What is drawn of the random bytes of an exchange: each method by a byte of its own.
+OF_HYBRID_CLIENT, OF_HYBRID_SERVER, OF_CURVE25519, OF_GROUP14 = range(4)
 
 
-def shared(secret, theirs):
+def draws_of(drawn, purpose):
+    """The three parts, 32 bytes each, of what random bytes are expanded to for a purpose."""
+    parts = hashlib.shake_256(drawn + bytes([purpose])).digest(96)
+    return parts[:32], parts[32:64], parts[64:]
+
+
+def scalar_of(drawn):
+    return draws_of(drawn, OF_CURVE25519)[0]
+
+
+def exponent_of(drawn):
+    return number_of(draws_of(drawn, OF_GROUP14)[0])
+
+
+def public(drawn):
+    return x25519(scalar_of(drawn), le(9))
+
+
+def shared(drawn, theirs):
     """What both sides share, as the body of an mpint (RFC 8731 section 3.1), or none."""
     if len(theirs) != 32:
         return None
-    body = x25519(secret, theirs).lstrip(b"\x00")
+    body = x25519(scalar_of(drawn), theirs).lstrip(b"\x00")
     if not body:
         return None
     return body if body[0] < 128 else b"\x00" + body
 
 
-# diffie-hellman-group14-sha256. The exponent is the number of 32 random bytes, the lowest first.
+# diffie-hellman-group14-sha256. The exponent is the number of the 32 bytes that are drawn, the lowest first.
 
 def body_of(n):
     """The body of a positive number's mpint (RFC 4251 section 5)."""
     return n.to_bytes(n.bit_length() // 8 + 1, "big")
 
 
-def group14_public(secret):
-    return body_of(pow(2, number_of(secret), PRIME))
+def group14_public(drawn):
+    return body_of(pow(2, exponent_of(drawn), PRIME))
 
 
-def group14_shared(secret, theirs):
+def group14_shared(drawn, theirs):
     """The body of the shared secret's mpint, or none."""
     n = int.from_bytes(theirs, "big")
     if not 2 <= n <= PRIME - 2 or body_of(n) != theirs:
         return None
-    found = pow(n, number_of(secret), PRIME)
+    found = pow(n, exponent_of(drawn), PRIME)
     return body_of(found) if 2 <= found <= PRIME - 2 else None
 
 
@@ -262,14 +280,14 @@ def exchanges(calls):
     for scalar, u, result in STANDARD_EXCHANGES:
         scalar, u = bytes.fromhex(scalar), bytes.fromhex(u)
         assert x25519(scalar, u).hex() == result
-        calls.row("exchange of the RFC", shared_line(scalar, u))
+        calls.row("exchange with a point of the RFC", shared_line(scalar, u))
     # RFC 7748 section 6.1: two private keys, two public ones, one secret
     ours = bytes.fromhex("77076d0a7318a57d3c16c17251b26645df4c2f87ebc0992ab177fba51db92c2a")
     theirs = bytes.fromhex("5dab087e624a8a4b79e17f8b83800ee66f3bb1292618b6fd1c2f8b27ff88e0eb")
-    assert public(ours).hex() == "8520f0098930a754748b7ddcb43ef75a0dbf3a0d26381af4eba4a98eaa9b4e6a"
-    assert public(theirs).hex() == "de9edb7d7b7dc1b4d35b61c2ece435373f8343c85b78674dadfc7e146f882b4f"
+    assert x25519(ours, le(9)).hex() == "8520f0098930a754748b7ddcb43ef75a0dbf3a0d26381af4eba4a98eaa9b4e6a"
+    assert x25519(theirs, le(9)).hex() == "de9edb7d7b7dc1b4d35b61c2ece435373f8343c85b78674dadfc7e146f882b4f"
     for secret, peer in ((ours, theirs), (theirs, ours)):
-        assert x25519(secret, public(peer)).hex() == "4a5d9d5ba4ce2de1728e3bf480350f25e07e21c947d19e3376f09b3c1e161742"
+        assert x25519(secret, x25519(peer, le(9))).hex() == "4a5d9d5ba4ce2de1728e3bf480350f25e07e21c947d19e3376f09b3c1e161742"
         calls.row("exchange of two sides", "public %s %s %s" % (METHOD, hexa(secret), hexa(public(secret))), shared_line(secret, public(peer)))
     for n in range(150):
         secret, peer = calls.bytes(32), calls.bytes(32)
@@ -307,10 +325,10 @@ def group14_exchanges(calls):
         for _ in range(2):
             theirs = calls.bytes(32)
             drawn = iter(lambda: calls.bytes(32), None)
-            ours = next(secret for secret in drawn if low <= pow(2, number_of(secret) * number_of(theirs), PRIME) < high)
+            ours = next(secret for secret in drawn if low <= pow(2, exponent_of(secret) * exponent_of(theirs), PRIME) < high)
             group14_exchange(calls, "group 14, a secret that %s" % name, ours, group14_public(theirs))
             # and a share that begins so
-            secret = next(secret for secret in drawn if low <= pow(2, number_of(secret), PRIME) < high)
+            secret = next(secret for secret in drawn if low <= pow(2, exponent_of(secret), PRIME) < high)
             group14_exchange(calls, "group 14, a share that %s" % name, secret, group14_public(theirs))
             calls.row("group 14, a peer's share that %s" % name, shared_line(ours, group14_public(secret), GROUP14))
     for bit in range(0, 256, 15):

@@ -18,12 +18,12 @@ shared_of = functools.lru_cache(maxsize=None)(deployed.shared)
 signature_by = functools.lru_cache(maxsize=None)(deployed.signature_of)
 
 
-def offer(role, strict=True, host=deployed.ALGORITHM):
-    return kexinit(role, (deployed.METHOD,), (host,), strict=strict, cs=CIPHER, sc=CIPHER)
+def offer(role, strict=True, host=deployed.ALGORITHM, method=deployed.METHOD):
+    return kexinit(role, (method,), (host,), strict=strict, cs=CIPHER, sc=CIPHER)
 
 
-def reply_of(key, signature):
-    return b"\x1f" + string(key) + string(SHARE[SERVER]) + string(signature)
+def reply_of(key, signature, share):
+    return b"\x1f" + string(key) + string(share) + string(signature)
 
 
 def packet_of(payload, seq, seed, keys):
@@ -49,12 +49,13 @@ class DeployedReceiver(Receiver):
     """An end over the deployed algorithms."""
 
     FORMS = {**FORMS, 30: "s", 31: "sss"}
+    METHOD, SHARE = deployed.METHOD, SHARE
     TAG, INIT, BLOB = 16, b"\x1e" + string(SHARE[CLIENT]), KEY
     half = DeployedHalf
 
-    @staticmethod
-    def offer_of(role, willing):
-        return offer(role, willing)
+    @classmethod
+    def offer_of(cls, role, willing):
+        return offer(role, willing, method=cls.METHOD)
 
     def is_length(self, n):
         return n >= 8 and not n % 8
@@ -76,9 +77,9 @@ class DeployedReceiver(Receiver):
     def shared(random, theirs):
         return shared_of(random, theirs)
 
-    @staticmethod
-    def reply(h):
-        return reply_of(KEY, deployed.wrapped(signature_by(HOST, h)))
+    @classmethod
+    def reply(cls, h):
+        return reply_of(KEY, deployed.wrapped(signature_by(HOST, h)), cls.SHARE[SERVER])
 
     @staticmethod
     def is_signed(key, h, signature):
@@ -93,36 +94,38 @@ class DeployedReceiver(Receiver):
 class DeployedTalk:
     """Both sides up to the accepted service, by the server's own key, or by another one: its algorithm, the public key, and what signs."""
 
-    def __init__(self, host=(deployed.ALGORITHM, KEY, lambda h: deployed.wrapped(signature_by(HOST, h)))):
+    def __init__(self, host=(deployed.ALGORITHM, KEY, lambda h: deployed.wrapped(signature_by(HOST, h))), receiver=DeployedReceiver):
         self.strict, c, s = True, DeployedHalf(CLIENT), DeployedHalf(SERVER)
         self.c, self.s = c, s
         algorithm, key, sign_ = host
-        self.ci, self.si = offer(CLIENT, host=algorithm), offer(SERVER, host=algorithm)
+        self.ci, self.si = (offer(role, host=algorithm, method=receiver.METHOD) for role in (CLIENT, SERVER))
         c.sent = s.sent = LINE
         c.send(self.ci)
         s.send(self.si)
         self.c_first, self.s_first = c.sent, s.sent
-        k = deployed.shared(RANDOM[CLIENT], SHARE[SERVER])
-        self.hash = sha(*(string(x) for x in (LINE[:-2], LINE[:-2], self.ci, self.si, key, SHARE[CLIENT], SHARE[SERVER], k)))
-        self.c_init, self.s_reply = c.send(DeployedReceiver.INIT), s.send(reply_of(key, sign_(self.hash)))
-        self.s_newkeys = s.switch(DeployedReceiver.keys_of(SERVER, k, self.hash), True)
-        self.c_newkeys = c.switch(DeployedReceiver.keys_of(CLIENT, k, self.hash), True)
+        e, f = receiver.SHARE[CLIENT], receiver.SHARE[SERVER]
+        k = receiver.shared(RANDOM[CLIENT], f)
+        self.hash = sha(*(string(x) for x in (LINE[:-2], LINE[:-2], self.ci, self.si, key, e, f, k)))
+        self.c_init, self.s_reply = c.send(receiver.INIT), s.send(reply_of(key, sign_(self.hash), f))
+        self.s_newkeys = s.switch(receiver.keys_of(SERVER, k, self.hash), True)
+        self.c_newkeys = c.switch(receiver.keys_of(CLIENT, k, self.hash), True)
         self.c_service, self.s_accept = c.send(service(5, "ssh-userauth")), s.send(service(6, "ssh-userauth"))
 
 
 class DeployedCourse:
     """The simplest session: a user without a proof, who is accepted."""
 
-    def __init__(self):
-        t = self.t = DeployedTalk()
+    def __init__(self, receiver=DeployedReceiver):
+        t = self.t = DeployedTalk(receiver=receiver)
+        self.method = receiver.METHOD
         names = [("client", "hostkey " + deployed.ALGORITHM), ("server", "hostkey %s %s" % (deployed.ALGORITHM, HOST.hex()))]
         for side in ("client", "server"):
-            names += [(side, "kex " + deployed.METHOD), (side, "cipher_cs " + CIPHER), (side, "cipher_sc " + CIPHER)]
+            names += [(side, "kex " + self.method), (side, "cipher_cs " + CIPHER), (side, "cipher_sc " + CIPHER)]
         self.lines = ["%s %s" % pair for pair in names] + ["client try al ssh-connection none", "allow al none"]
         self.requests, self.answers, self.asked = [t.c.send(by_none())], [t.s.send(SUCCESS)], [[1]]
 
     def agreed(self):
-        return "agreed %s %s %s %s m m none none yes %s" % (deployed.METHOD, deployed.ALGORITHM, CIPHER, CIPHER, self.t.hash.hex())
+        return "agreed %s %s %s %s m m none none yes %s" % (self.method, deployed.ALGORITHM, CIPHER, CIPHER, self.t.hash.hex())
 
 
 class DeployedSession(Session):
@@ -132,7 +135,7 @@ class DeployedSession(Session):
     def __init__(self, file, role, course):
         super().__init__(file, role, "deployed", course)
         self.begin = self.begin[:-1] + ["deployed " + role]
-        ear = DeployedReceiver(role, True, self.received)
+        ear = self.receiver(role, True, self.received)
         assert (ear.own.sent, ear.end) == (self.says, LET_IN)
 
 

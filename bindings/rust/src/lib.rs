@@ -76,13 +76,12 @@ pub struct Side {
 }
 
 impl Default for Side {
-    /// The algorithms that the library and peers in use have. The library also has the cipher `aes256-gcm@openssh.com`: it works
-    /// where both sides are strict, and is slow.
+    /// The algorithms that the library and peers in use have. The second cipher works only where both sides are strict.
     fn default() -> Side {
         Side {
             softwareversion: "rezdolin".into(),
-            kex: "curve25519-sha256,curve25519-sha256@libssh.org".into(),
-            ciphers: "chacha20-poly1305@openssh.com".into(),
+            kex: "mlkem768x25519-sha256,curve25519-sha256,curve25519-sha256@libssh.org".into(),
+            ciphers: "chacha20-poly1305@openssh.com,aes256-gcm@openssh.com".into(),
             macs: "hmac-sha2-256-etm@openssh.com,hmac-sha2-512-etm@openssh.com,hmac-sha2-256,hmac-sha2-512,hmac-sha1"
                 .into(),
             strict: true,

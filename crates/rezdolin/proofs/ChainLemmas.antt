@@ -32,7 +32,7 @@ module _ (parts : Parts) (d : DecisionsData) (allowed : AreAllowed parts d) wher
   -- one call more
   one_more : (h s : List ℕ) (before : Came) (call : Call) → StandsAs parts d h s before → before.record.items ≢ [] → IsNext parts d before call
       → StandsAs parts d (h ++ used_by call) (s ++ (came_of call).sent.items) (came_of call)
-  one_more h s before (Stepped piece came) stands some (inl reads) = reads.2.1 d allowed h s (here h s before stands some)
+  one_more h s before (Stepped piece came) stands some (inl reads) = reads.3.1 d allowed h s (here h s before stands some)
   one_more h s before (Stepped piece came) stands some (inr holds) =
       let all : take came.used piece ≡ piece = ap (λ (n : ℕ). take n piece) holds.all ∙ take-length piece in
       let by = holds.stands parts d h s (here h s before stands some) in
@@ -41,7 +41,7 @@ module _ (parts : Parts) (d : DecisionsData) (allowed : AreAllowed parts d) wher
       (subst (λ (x : List ℕ). StandsAs parts d (h ++ piece) x came) (sym (append-nil s))
       (inl (None, by, holds.end_is, holds.none_told))))
   one_more h s before (Replied number signature came) stands some next =
-      next.0.3.1 d allowed h s (asking h s before number signature next.0.0 stands next.1 next.2 next.0.1 (decisions_of parts d))
+      next.0.4.1 d allowed h s (asking h s before number signature next.0.0 stands next.1 next.2 next.0.1 (decisions_of parts d))
 
   all_more : (calls : List Call) (before : Came) (h s : List ℕ) → StandsAs parts d h s before → AreNext parts d before calls
       → StandsAs parts d (h ++ all_used calls) (s ++ all_sent calls) (last_of before calls)

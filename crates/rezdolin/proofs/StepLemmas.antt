@@ -437,10 +437,14 @@ length_digest : (parts : Parts) → length (digest_of parts) ≡ 32
 length_digest (parts.Client client) = length-sha256 (client_text client.now [])
 length_digest (parts.Server server) = length-sha256 (server_text server.now [])
 
+-- bytes in a frame with this digest are one that was written for these parts
+pub frame_so : (parts : Parts) (bytes text digest : List ℕ) → digest ≡ digest_of parts → bytes ≡ framed digest text → IsFrameOf bytes (digest_of parts)
+frame_so parts bytes text digest digest_is framed_is = (length_digest parts, (text, framed_is ∙ ap (λ (l : List ℕ). framed l text) digest_is))
+
 -- a frame with this digest has no other
 own_only : (parts : Parts) (bytes text digest other : List ℕ) → digest ≡ digest_of parts → bytes ≡ framed digest text → IsFrameOf bytes other → other ≡ digest_of parts
 own_only parts bytes text digest other digest_is framed_is f =
-    frame_one other (digest_of parts) bytes f (length_digest parts, (text, framed_is ∙ ap (λ (l : List ℕ). framed l text) digest_is))
+    frame_one other (digest_of parts) bytes f (frame_so parts bytes text digest digest_is framed_is)
 
 -- A record that holds more bytes, in the frame of the one before it: whatever parts that was written for.
 own_setup : (parts : Parts) (d : DecisionsData) → setup_with deployed d (setup_of parts d).role (setup_of parts d).config ≡ setup_of parts d

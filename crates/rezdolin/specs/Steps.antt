@@ -25,7 +25,7 @@ use Rattle.rezdolin.specs.declared.steps.NoStep.{NoStep}
 use Rattle.rezdolin.specs.Answers.{end_numbers, lacks_room, no_step, step_answer, three}
 use Rattle.rezdolin.specs.Directions.{IsPut}
 use Rattle.rezdolin.specs.Endpoints.{AreAllowed, AreListed, AreTaken, IsRecordAfter, digest_of, setup_of}
-use Rattle.rezdolin.specs.Frames.{framed}
+use Rattle.rezdolin.specs.Frames.{IsFrameOf, framed}
 use Rattle.rezdolin.specs.Questions.{told_end, told_question}
 use Rattle.rezdolin.specs.Records.{record_of}
 
@@ -86,10 +86,11 @@ ComesTo parts Stood taken sent end bytes told =
     → StandsNow (setup_of parts d) (digest_of parts) (h ++ taken) (s ++ sent) end bytes told)
     × (AreListed parts → end.end ≢ END_ASKS)
 
--- What a call came to by which an endpoint was told to disconnect: it has ended so; and whatever it has received and sent that stood so, it
--- has sent a DISCONNECT with this reason and description after that.
+-- What a call came to by which an endpoint of the parts that these bytes were written for was told to disconnect: it has ended so; and
+-- whatever it has received and sent that stood so, it has sent a DISCONNECT with this reason and description after that.
 pub record Leaves (parts : Parts) (bytes : List ℕ) (reason : ℕ) (description sent : List ℕ) (end : EndNumbers) (new told : List ℕ) : Type 0 where
   pub taken : AreTaken parts
+  pub written_for : IsFrameOf bytes (digest_of parts)
   pub none : new ≡ []
   pub nothing : told ≡ []
   pub end_is : end ≡ three END_DISCONNECTED 0 reason
@@ -141,23 +142,25 @@ Tells came answer out next told new_out new_next new_told =
 
 -- A call of whose bytes nothing comes but that they are held, since the endpoint is within a packet and wants more of it than these before
 -- it looks at it again. It looks at no parts: whatever parts the record was written for, their endpoint has received all these bytes more,
--- has sent nothing more, is open and asks nothing, and this is its record.
+-- has sent nothing more, is open and asks nothing, and this is its record, which goes on in the frame of theirs.
 pub record Holds (bytes piece : List ℕ) (came : Came) : Type 0 where
   pub all : came.used ≡ length piece
   pub none_sent : came.sent.items ≡ []
   pub end_is : came.end ≡ three END_OPEN 0 0
   pub none_told : came.told.items ≡ []
+  pub frame : (digest : List ℕ) × IsFrameOf bytes digest × IsFrameOf came.record.items digest
   pub stands : (parts : Parts) (d : DecisionsData) (h s : List ℕ) → StandsHere (digest_of parts) bytes (setup_of parts d) h s
       → StandsBy (setup_of parts d) (digest_of parts) came.record.items None (h ++ piece) s
 
 -- what calls come to that begin an endpoint, go on with bytes, of which all are used while it is open and asks nothing, go on with an
--- answer, or disconnect
+-- answer, or disconnect; they go on from a record alone that was written for these parts
 abbrev pub Begins : Parts → Came → Type 0
 Begins parts came = (came.used ≡ 0) × ComesTo parts Starts [] came.sent.items came.end came.record.items came.told.items
 
 abbrev pub ReadsOn : Parts → List ℕ → List ℕ → Came → Type 0
 ReadsOn parts bytes piece came =
-    (came.used ≤ length piece)
+    IsFrameOf bytes (digest_of parts)
+    × (came.used ≤ length piece)
     × (came.end.end ≡ END_OPEN → came.used ≡ length piece)
     × ComesTo parts (StandsHere (digest_of parts) bytes) (take came.used piece) came.sent.items came.end came.record.items came.told.items
 
@@ -167,6 +170,7 @@ GoesOn parts bytes piece came = ReadsOn parts bytes piece came ⊎ Holds bytes p
 abbrev pub IsAnsweredBy : Parts → List ℕ → ℕ → List ℕ → Came → Type 0
 IsAnsweredBy parts bytes number signature came =
     (a : AnswerData) × IsReply number signature a
+    × IsFrameOf bytes (digest_of parts)
     × (came.used ≡ 0)
     × ComesTo parts (IsAnswered a (digest_of parts) bytes) [] came.sent.items came.end came.record.items came.told.items
 

@@ -123,8 +123,21 @@ fn put_kexinit(
         put_choice(text, &ours, &theirs)?;
     }
     let strict = strict_of(findings.strict, Side::Client, &theirs);
-    writeln!(text, "# strict {}", if strict { "yes" } else { "no" })?;
+    writeln!(text, "# strict {}", yes_or_no(strict))?;
+    let post_quantum = theirs.kex_algorithms.names().any(is_post_quantum);
+    writeln!(text, "# post-quantum {}", yes_or_no(post_quantum))?;
     Ok(())
+}
+
+/// The word for a flag.
+fn yes_or_no(flag: bool) -> &'static str {
+    if flag { "yes" } else { "no" }
+}
+
+/// Whether a method of key exchange holds against a quantum computer too: it has ML-KEM (draft-ietf-sshm-mlkem-hybrid-kex), or Streamlined
+/// NTRU Prime as OpenSSH has it.
+fn is_post_quantum(name: &str) -> bool {
+    name.starts_with("mlkem") || name.starts_with("sntrup761x25519-sha512")
 }
 
 /// The KEXINIT that a payload spells, if it is one.

@@ -58,13 +58,12 @@ const SERVER: &[&str] = &[
     "reading",
 ];
 
-/// Methods of key exchange where no word names others: both names of one, and one that older peers have.
-const KEX: &str = "curve25519-sha256,curve25519-sha256@libssh.org,diffie-hellman-group14-sha256";
+/// Methods of key exchange where no word names others: one that holds against a quantum computer too, both names of one that peers have
+/// had for long, and one that older peers have.
+const KEX: &str =
+    "mlkem768x25519-sha256,curve25519-sha256,curve25519-sha256@libssh.org,diffie-hellman-group14-sha256";
 
-/// The cipher where no word names others.
-const CIPHER: &str = "chacha20-poly1305@openssh.com";
-
-/// All ciphers that the suite has.
+/// All ciphers that the suite has, which are listed where no word names others. The second works only where both sides are strict.
 const CIPHERS: &str = "chacha20-poly1305@openssh.com,aes256-gcm@openssh.com";
 
 /// MACs that peers list: the ciphers need none, but each side has to choose one.
@@ -200,7 +199,7 @@ fn settings_of<'a>(job: Job, given: &[Given<'a>]) -> Result<Settings<'a>, WordFa
     let kex = known("kex", value_of(given, "kex").unwrap_or(KEX), KEX)?;
     let cipher = known(
         "cipher",
-        value_of(given, "cipher").unwrap_or(CIPHER),
+        value_of(given, "cipher").unwrap_or(CIPHERS),
         CIPHERS,
     )?;
     let exec = short("exec", value_of(given, "exec"))?;

@@ -65,6 +65,9 @@ impl Decisions for HostKeys {
     }
 }
 
+/// Ciphers, of which the second works only where both sides are strict.
+const CIPHERS: &str = "chacha20-poly1305@openssh.com,aes256-gcm@openssh.com";
+
 fn main(rt: HostRuntime) -> anyhow::Result<()> {
     let keys = HostKeys {
         trusted: trusted_hash(&rt)?,
@@ -115,9 +118,9 @@ fn parts_of(rt: &HostRuntime, user: &str, password: &str) -> anyhow::Result<Clie
             softwareversion: String::from_str(alloc, "example")?,
             comments: None,
             reading: PeerReading::Deployed,
-            kex_algorithms: list(alloc, "curve25519-sha256")?,
-            encryption_client_to_server: list(alloc, "chacha20-poly1305@openssh.com")?,
-            encryption_server_to_client: list(alloc, "chacha20-poly1305@openssh.com")?,
+            kex_algorithms: list(alloc, "mlkem768x25519-sha256,curve25519-sha256")?,
+            encryption_client_to_server: list(alloc, CIPHERS)?,
+            encryption_server_to_client: list(alloc, CIPHERS)?,
             mac_client_to_server: list(alloc, "hmac-sha2-256")?,
             mac_server_to_client: list(alloc, "hmac-sha2-256")?,
             strict: true,
@@ -132,8 +135,12 @@ fn parts_of(rt: &HostRuntime, user: &str, password: &str) -> anyhow::Result<Clie
     })
 }
 
-fn list(alloc: Global, name: &str) -> anyhow::Result<Vec<String>> {
-    Ok(Vec::from_array(alloc, [String::from_str(alloc, name)?])?)
+fn list(alloc: Global, names: &str) -> anyhow::Result<Vec<String>> {
+    let mut list = Vec::new(alloc);
+    for name in names.split(',') {
+        list.push(String::from_str(alloc, name)?)?;
+    }
+    Ok(list)
 }
 
 fn random(rt: &HostRuntime, count: usize) -> anyhow::Result<Vec<u8>> {

@@ -9,7 +9,7 @@ use crate::stop::Stop;
 use crate::terms::bytes_of;
 use crate::texts::{number_of, same_bytes, same_text, wrong, yes_or_no};
 use crate::words::{Line, split_word};
-use sshpacket::{Keys, Suite};
+use sshpacket::{Keys, Response, Suite};
 use sshwire::as_name;
 use std::alloc::Global;
 
@@ -34,7 +34,7 @@ fn judge<S: Suite>(alloc: Global, names: &Names, suite: &S, line: &Line<'_>) -> 
             let (keys, rest) = keys_of(alloc, names, line, rest)?;
             judge_sealing(alloc, names, suite, line, call, &keys, rest)
         }
-        "public" | "shared" => judge_exchange(alloc, names, suite, line, call, rest),
+        "public" | "shared" | "respond" => judge_exchange(alloc, names, suite, line, call, rest),
         "blob" | "sign" | "verify" => judge_signing(alloc, names, suite, line, call, rest),
         "holds" => judge_held(alloc, names, suite, line, rest),
         _ => wrong(alloc, line, "line", "a call of a suite", call),
@@ -109,7 +109,8 @@ fn judge_sealing<S: Suite>(
     same_answer(alloc, names, line, wanted, &found)
 }
 
-/// `public METHOD RANDOM SHARE` or `shared METHOD RANDOM SHARE NUMBER`.
+/// `public METHOD RANDOM SHARE`, `shared METHOD RANDOM SHARE NUMBER` or `respond METHOD RANDOM SHARE ANSWER`, where the answer is
+/// the server's share and the shared secret after it.
 fn judge_exchange<S: Suite>(
     alloc: Global,
     names: &Names,
@@ -131,6 +132,18 @@ fn judge_exchange<S: Suite>(
     }
     let (peer, wanted) = split_word(words);
     let peer = input_of(alloc, names, line, peer)?;
+    if call == "respond" {
+        let found = match suite.respond(alloc, method, &random, &peer)? {
+            None => None,
+            Some(response) => {
+                let Response { share, shared } = response;
+                let mut both = share;
+                both.extend_from_slice(&shared)?;
+                Some(both)
+            }
+        };
+        return same_answer(alloc, names, line, wanted, &found);
+    }
     let found = suite.shared(alloc, method, &random, &peer)?;
     same_answer(alloc, names, line, wanted, &found)
 }

@@ -44,7 +44,7 @@ unfolding block_of
 times_27 zero f = refl
 times_27 (suc n) f = let before = times_27 n f in omega (arith, before)
 
-times_255 : (n : ℕ) (f : ℕ → ℕ) → block_of n f * 0xff ≡ block_of n (λ i. f i * 0xff)
+pub times_255 : (n : ℕ) (f : ℕ → ℕ) → block_of n f * 0xff ≡ block_of n (λ i. f i * 0xff)
 unfolding block_of
 times_255 zero f = refl
 times_255 (suc n) f = let before = times_255 n f in omega (arith, before)
@@ -58,7 +58,7 @@ unfolding block_of limit
 below_limit zero f h = omega arith
 below_limit (suc n) f h = let before = below_limit n f h in let last = h n in omega (arith, before, last)
 
-whole : (f : ℕ → ℕ) → AreBytes f → block_of 16 f % 2 ^ 128 ≡ block_of 16 f
+pub whole : (f : ℕ → ℕ) → AreBytes f → block_of 16 f % 2 ^ 128 ≡ block_of 16 f
 unfolding limit
 whole f h = let below : block_of 16 f < 2 ^ 128 = below_limit 16 f h in omega (arith, below)
 
@@ -81,7 +81,7 @@ cut m ones =
     ∙ (and_block 8 (m / 2 ^ 8) ones (m % 2 ^ 8) 1 (omega arith) (omega arith)
     ∙ ap (λ (x : ℕ). bit_and (m / 2 ^ 8) ones * 2 ^ 8 + x) (and_mask (m % 2 ^ 8) 1))
 
-bits_of : (n k : ℕ) (f : ℕ → ℕ) → k < 8 → AreBytes f → bit_and (block_of n f / 2 ^ k) (block_of n (λ i. 1)) ≡ block_of n (λ i. f i / 2 ^ k % 2)
+pub bits_of : (n k : ℕ) (f : ℕ → ℕ) → k < 8 → AreBytes f → bit_and (block_of n f / 2 ^ k) (block_of n (λ i. 1)) ≡ block_of n (λ i. f i / 2 ^ k % 2)
 unfolding block_of
 bits_of zero k f h low = and_zero_r (0 / 2 ^ k)
 bits_of (suc n) k f h low =
@@ -96,7 +96,7 @@ zeros_are : block_of 16 (λ i. 0) ≡ 0
 unfolding block_of
 zeros_are = refl
 
-ones_are : block_of 16 (λ i. 1) ≡ 0x01010101010101010101010101010101
+pub ones_are : block_of 16 (λ i. 1) ≡ 0x01010101010101010101010101010101
 unfolding block_of
 ones_are = refl
 
@@ -104,7 +104,7 @@ sevens_are : block_of 16 (λ i. 0x7f) ≡ 0x7f7f7f7f7f7f7f7f7f7f7f7f7f7f7f7f
 unfolding block_of
 sevens_are = refl
 
-constants_are : block_of 16 (λ i. 0x63) ≡ 0x63636363636363636363636363636363
+pub constants_are : block_of 16 (λ i. 0x63) ≡ 0x63636363636363636363636363636363
 unfolding block_of
 constants_are = refl
 

@@ -323,8 +323,28 @@ mixed_byte a b c d h k =
     ∙ (xor_assoc (xtime a) (xtime b) b ∙ (ap (bit_xor (xtime a)) (xor_comm (xtime b) b ∙ sym (product_3 b))
     ∙ ap (λ (x : ℕ). bit_xor x (byte_product 3 b)) (sym (product_2 a)))))
 
+-- the bytes of a mixed column
+places : (f : ℕ → ℕ) (two three : ℕ → ℕ) (i : ℕ) → bit_xor (bit_xor (bit_xor (two (f i)) (three (f (next i)))) (f (next (next i)))) (f (next (next (next i))))
+    ≡ bit_xor (bit_xor (bit_xor (two (f (4 * (i / 4) + (i % 4 + 0) % 4))) (three (f (4 * (i / 4) + (i % 4 + 1) % 4)))) (f (4 * (i / 4) + (i % 4 + 2) % 4))) (f (4 * (i / 4) + (i % 4 + 3) % 4))
+places f two three i =
+    let e0 : i ≡ 4 * (i / 4) + (i % 4 + 0) % 4 = omega arith in
+    let e1 : next i ≡ 4 * (i / 4) + (i % 4 + 1) % 4 = omega arith in
+    let e2 : next (next i) ≡ 4 * (i / 4) + (i % 4 + 2) % 4 = omega arith in
+    let e3 : next (next (next i)) ≡ 4 * (i / 4) + (i % 4 + 3) % 4 = omega arith in
+    ap (λ (p : ℕ). bit_xor (bit_xor (bit_xor (two (f p)) (three (f (next i)))) (f (next (next i)))) (f (next (next (next i))))) e0
+    ∙ (ap (λ (p : ℕ). bit_xor (bit_xor (bit_xor (two (f (4 * (i / 4) + (i % 4 + 0) % 4))) (three (f p))) (f (next (next i)))) (f (next (next (next i))))) e1
+    ∙ (ap (λ (p : ℕ). bit_xor (bit_xor (bit_xor (two (f (4 * (i / 4) + (i % 4 + 0) % 4))) (three (f (4 * (i / 4) + (i % 4 + 1) % 4)))) (f p)) (f (next (next (next i))))) e2
+    ∙ ap (λ (p : ℕ). bit_xor (bit_xor (bit_xor (two (f (4 * (i / 4) + (i % 4 + 0) % 4))) (three (f (4 * (i / 4) + (i % 4 + 1) % 4)))) (f (4 * (i / 4) + (i % 4 + 2) % 4))) (f p)) e3))
+
+pub mixed_is : (f : ℕ → ℕ) → AreBytes f → (i : ℕ)
+    → bit_xor (bit_xor (bit_xor (xtime (bit_xor (f i) (f (next i)))) (f (next i))) (f (next (next i)))) (f (next (next (next i)))) ≡ mixed_column f i
+unfolding mixed_column below_in_column
+mixed_is f h i =
+    mixed_byte (f i) (f (next i)) (f (next (next i))) (f (next (next (next i)))) (h i) (h (next i))
+    ∙ places f (byte_product 2) (byte_product 3) i
+
 mix_columns_is : (f : ℕ → ℕ) → AreBytes f → mix_columns (block_of 16 f) ≡ block_of 16 (mixed_column f)
-unfolding mix_columns mixed_column below_in_column
+unfolding mix_columns
 mix_columns_is f h =
     let b : ℕ → ℕ = λ i. f (next i) in
     let c : ℕ → ℕ = λ i. b (next i) in
@@ -348,21 +368,7 @@ mix_columns_is f h =
     let hxbc : AreBytes xbc = λ i. xor_byte (xb i) (c i) (hxb i) (hc i) in
     let is_xbc = by_xor _ _ xb c hxb hc is_xb is_c in
     by_xor _ _ xbc d hxbc hd is_xbc is_d
-    ∙ same_block 16 _ (mixed_column f) (λ i.
-    mixed_byte (f i) (b i) (c i) (d i) (h i) (hb i)
-    ∙ places f (byte_product 2) (byte_product 3) i)
-  where
-    places : (f : ℕ → ℕ) (two three : ℕ → ℕ) (i : ℕ) → bit_xor (bit_xor (bit_xor (two (f i)) (three (f (next i)))) (f (next (next i)))) (f (next (next (next i))))
-        ≡ bit_xor (bit_xor (bit_xor (two (f (4 * (i / 4) + (i % 4 + 0) % 4))) (three (f (4 * (i / 4) + (i % 4 + 1) % 4)))) (f (4 * (i / 4) + (i % 4 + 2) % 4))) (f (4 * (i / 4) + (i % 4 + 3) % 4))
-    places f two three i =
-        let e0 : i ≡ 4 * (i / 4) + (i % 4 + 0) % 4 = omega arith in
-        let e1 : next i ≡ 4 * (i / 4) + (i % 4 + 1) % 4 = omega arith in
-        let e2 : next (next i) ≡ 4 * (i / 4) + (i % 4 + 2) % 4 = omega arith in
-        let e3 : next (next (next i)) ≡ 4 * (i / 4) + (i % 4 + 3) % 4 = omega arith in
-        ap (λ (p : ℕ). bit_xor (bit_xor (bit_xor (two (f p)) (three (f (next i)))) (f (next (next i)))) (f (next (next (next i))))) e0
-        ∙ (ap (λ (p : ℕ). bit_xor (bit_xor (bit_xor (two (f (4 * (i / 4) + (i % 4 + 0) % 4))) (three (f p))) (f (next (next i)))) (f (next (next (next i))))) e1
-        ∙ (ap (λ (p : ℕ). bit_xor (bit_xor (bit_xor (two (f (4 * (i / 4) + (i % 4 + 0) % 4))) (three (f (4 * (i / 4) + (i % 4 + 1) % 4)))) (f p)) (f (next (next (next i))))) e2
-        ∙ ap (λ (p : ℕ). bit_xor (bit_xor (bit_xor (two (f (4 * (i / 4) + (i % 4 + 0) % 4))) (three (f (4 * (i / 4) + (i % 4 + 1) % 4)))) (f (4 * (i / 4) + (i % 4 + 2) % 4))) (f p)) e3))
+    ∙ same_block 16 _ (mixed_column f) (mixed_is f h)
 
 -- Rounds.
 abbrev pub substituted : (ℕ → ℕ) → ℕ → ℕ
@@ -371,18 +377,18 @@ substituted f i = s_box (f i)
 pub substituted_bytes : (f : ℕ → ℕ) → AreBytes f → AreBytes (substituted f)
 substituted_bytes f h i = s_box_byte (f i) (h i)
 
-shifted_bytes : (f : ℕ → ℕ) → AreBytes f → AreBytes (shifted_row f)
+pub shifted_bytes : (f : ℕ → ℕ) → AreBytes f → AreBytes (shifted_row f)
 unfolding shifted_row
 shifted_bytes f h i = h ((i + 4 * (i % 4)) % 16)
 
-mixed_bytes : (f : ℕ → ℕ) → AreBytes f → AreBytes (mixed_column f)
+pub mixed_bytes : (f : ℕ → ℕ) → AreBytes f → AreBytes (mixed_column f)
 unfolding mixed_column below_in_column
 mixed_bytes f h i =
     let at : ℕ → ℕ = λ k. 4 * (i / 4) + (i % 4 + k) % 4 in
     xor_byte _ (f (at 3)) (xor_byte _ (f (at 2)) (xor_byte (byte_product 2 (f (at 0))) (byte_product 3 (f (at 1)))
     (product_byte 2 (f (at 0)) (h (at 0))) (product_byte 3 (f (at 1)) (h (at 1)))) (h (at 2))) (h (at 3))
 
-keyed_bytes : (f k : ℕ → ℕ) → AreBytes f → AreBytes k → AreBytes (with_key f k)
+pub keyed_bytes : (f k : ℕ → ℕ) → AreBytes f → AreBytes k → AreBytes (with_key f k)
 unfolding with_key
 keyed_bytes f k h l i = xor_byte (f i) (k i) (h i) (l i)
 
@@ -394,7 +400,7 @@ shifted_is : (a : ℕ) (f : ℕ → ℕ) → AreBytes f → a ≡ block_of 16 f 
 shifted_is a f h e =
     ap (λ (x : ℕ). shift_rows (sub_bytes x)) e ∙ (ap shift_rows (sub_bytes_is f h) ∙ shift_rows_is (substituted f) (substituted_bytes f h))
 
-states_bytes : (keys : ℕ → ℕ → ℕ) (f : ℕ → ℕ) (n : ℕ) → ((j : ℕ) → AreBytes (keys j)) → AreBytes f → AreBytes (state_after keys f n)
+pub states_bytes : (keys : ℕ → ℕ → ℕ) (f : ℕ → ℕ) (n : ℕ) → ((j : ℕ) → AreBytes (keys j)) → AreBytes f → AreBytes (state_after keys f n)
 unfolding state_after
 states_bytes keys f zero k h = keyed_bytes f (keys 0) h (k 0)
 states_bytes keys f (suc n) k h =

@@ -7,8 +7,9 @@ use Rattle.sshwire.specs.ByteLaws.{bytes_cons}
 use Rattle.sshwire.specs.Types.{IsBytes}
 use Rattle.sshsuite.specs.Bits.{number_of_32, word_at}
 use Rattle.sshsuite.specs.Curve25519.{base_point, clamped}
-use Rattle.sshsuite.specs.Deployed.{is_curve25519, is_group14, share, shared, shared_secret}
+use Rattle.sshsuite.specs.Deployed.{exponent_of, is_curve25519, is_group14, is_hybrid, scalar_of, share, shared, shared_secret}
 use Rattle.sshsuite.specs.Group14.{group14_share, group14_shared}
+use Rattle.sshsuite.specs.Hybrid.{hybrid_share, hybrid_shared}
 use Rattle.sshsuite.specs.MpintBody.{mpint_body}
 use Rattle.sshsuite.proofs.DecodingLemmas.{same_number, zeros}
 use Rattle.sshsuite.proofs.WordLemmas.{are_words, zero_bytes}
@@ -29,8 +30,8 @@ base_bytes = bytes_cons 9 (replicate 31 0) (omega arith) (zero_bytes 31)
 pub share_is : (kex random : List ℕ) → share kex random ≡ share_bytes kex random
 unfolding share share_bytes
 share_is kex random =
-    ap (cond (is_group14 kex) (group14_share random)) (
-    x25519_is random base_point (are_words base_point base_bytes) ∙ ap (λ (u : ℕ). bytes_of_number (x25519_number (clamped random) u)) nine)
+    ap (λ (xs : List ℕ). cond (is_group14 kex) (group14_share (exponent_of random)) (cond (is_hybrid kex) (hybrid_share random) xs)) (
+    x25519_is (scalar_of random) base_point (are_words base_point base_bytes) ∙ ap (λ (u : ℕ). bytes_of_number (x25519_number (clamped (scalar_of random)) u)) nine)
 
 below_field : (random : List ℕ) (u : ℕ) → x25519_number random u < 2 ^ 256
 unfolding x25519_number times
@@ -46,5 +47,5 @@ pub shared_is : (kex random peer : List ℕ) → IsBytes peer → shared kex ran
 unfolding shared shared_body
 shared_is kex random peer h =
     let u : ℕ = number_of_32 peer % 2 ^ 255 % field in
-    ap (λ (o : Option (List ℕ)). cond (is_group14 kex) (group14_shared random peer) (cond (is_curve25519 kex && eqb (length peer) 32) o None))
-    (ap shared_secret (x25519_is random peer (are_words peer h)) ∙ body_is (x25519_number (clamped random) u) (below_field (clamped random) u))
+    ap (λ (o : Option (List ℕ)). cond (is_group14 kex) (group14_shared (exponent_of random) peer) (cond (is_hybrid kex) (hybrid_shared random peer) (cond (is_curve25519 kex && eqb (length peer) 32) o None)))
+    (ap shared_secret (x25519_is (scalar_of random) peer (are_words peer h)) ∙ body_is (x25519_number (clamped (scalar_of random)) u) (below_field (clamped (scalar_of random)) u))

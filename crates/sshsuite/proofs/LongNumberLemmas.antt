@@ -45,14 +45,14 @@ number_set words i y h =
     let at : slice_index (slice_set words i y) i ≡ y = get_or-set_same words i y 0 h in
     number_more (slice_set words i y) i ∙ rw (front, at) refl
 
-fits : (w x : ℕ) → x < 2 ^ 64 → w * x + w ≤ 2 ^ 64 * w
-fits w x h = let e = row_fits x w (2 ^ 64) w h (omega arith) in omega (arith, e)
+pub word_fits : (w x : ℕ) → x < 2 ^ 64 → w * x + w ≤ 2 ^ 64 * w
+word_fits w x h = let e = row_fits x w (2 ^ 64) w h (omega arith) in omega (arith, e)
 
 pub number_below : (words : List ℕ) (n : ℕ) → ((k : ℕ) → slice_index words k < 2 ^ 64) → number_to words n < weight n
 number_below words zero h = omega (arith, number_none words, weight_none)
 number_below words (suc n) h =
     let low = number_below words n h in
-    let top = fits (weight n) (slice_index words n) (h n) in
+    let top = word_fits (weight n) (slice_index words n) (h n) in
     let more = number_more words n in
     let heavier = weight_more n in
     rw (sym (add-one n)) (omega (arith, low, top, more, heavier))
@@ -105,7 +105,7 @@ compared : (a b w x y c e r : ℕ) → b ≤ a + w * c → a + w * c < b + w →
     → (b + w * y ≤ a + w * x + 2 ^ 64 * w * e) × (a + w * x + 2 ^ 64 * w * e < b + w * y + 2 ^ 64 * w)
 compared a b w x y c e r low high is h =
     let f : w * (r + y + c) ≡ w * (x + 2 ^ 64 * e) = ap (λ (k : ℕ). w * k) is in
-    let top = fits w r h in (omega (arith, f, low), omega (arith, f, high, top))
+    let top = word_fits w r h in (omega (arith, f, low), omega (arith, f, high, top))
 
 -- a borrow from the next word tells which number is less
 pub record IsBorrow (a b : List ℕ) (i borrow : ℕ) : Type 0 where

@@ -156,17 +156,17 @@ reduced t w top p new borrow hp hn low e =
     above (suc (suc n)) more s low e = absurd (omega arith)
 
 -- The product, word by word.
+pub zero_at : (m n : ℕ) → slice_index (replicate m 0) n ≡ 0
+zero_at zero n = refl
+zero_at (suc m) zero = refl
+zero_at (suc m) (suc n) = zero_at m n
+
 pub number_zeros : (m n : ℕ) → number_to (replicate m 0) n ≡ 0
 unfolding number_to
 number_zeros m zero = refl
 number_zeros m (suc n) =
     let e = number_zeros m n in
     let f : slice_index (replicate m 0) n ≡ 0 = zero_at m n in rw (e, f) (omega arith)
-  where
-    zero_at : (m n : ℕ) → slice_index (replicate m 0) n ≡ 0
-    zero_at zero n = refl
-    zero_at (suc m) zero = refl
-    zero_at (suc m) (suc n) = zero_at m n
 
 pub number_of_zeros : (m : ℕ) → number_of (replicate m 0) ≡ 0
 number_of_zeros m = number_all (replicate m 0) (length (replicate m 0)) refl ∙ number_zeros m (length (replicate m 0))

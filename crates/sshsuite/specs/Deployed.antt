@@ -5,14 +5,17 @@ use Rattle.std.specs.Str.{bytes_eq}
 use Rattle.sha2.specs.Sha256.{sha256}
 use Rattle.sshwire.specs.Types.{string}
 use Rattle.sshpacket.specs.declared.suite.Need.TheVariants.{Encryption, Signature}
-use Rattle.sshwire.specs.declared.share_form.ShareForm.TheVariants.{Mpint, OctetString}
+use Rattle.sshwire.specs.declared.share_form.ShareForm.TheVariants.{Hybrid, Mpint, OctetString}
 use Rattle.sshpacket.specs.declared.suite.KeyLens.{KeyLens}
 use Rattle.sshpacket.specs.KeysElsewhere.{public_part}
 use Rattle.sshpacket.specs.Packet.{number}
 use Rattle.sshpacket.specs.Suite.{ResponseData, SuiteData}
 use Rattle.sshsuite.specs.Curve25519.{base_point, x25519}
+use Rattle.sshsuite.specs.Expansion.{expanded}
+use Rattle.sshsuite.specs.declared.expansion.Purpose.TheVariants.{Curve25519, Group14}
 use Rattle.sshsuite.specs.Gcm.{seal as gcm_seal, unseal as gcm_unseal}
 use Rattle.sshsuite.specs.Group14.{group14_share, group14_shared}
+use Rattle.sshsuite.specs.Hybrid.{hybrid_respond, hybrid_share, hybrid_shared}
 use Rattle.sshsuite.specs.MpintBody.{mpint_body}
 use Rattle.sshsuite.specs.Rsa.{is_rsa, rsa_verify}
 use Rattle.sshsuite.specs.Sealing.{head, seal, unseal}
@@ -26,6 +29,10 @@ is_curve25519 kex = bytes_eq kex (codes "curve25519-sha256") || bytes_eq kex (co
 -- the name of diffie-hellman-group14-sha256
 unfoldable pub is_group14 : List ℕ → Bool
 is_group14 kex = bytes_eq kex (codes "diffie-hellman-group14-sha256")
+
+-- the name of mlkem768x25519-sha256
+unfoldable pub is_hybrid : List ℕ → Bool
+is_hybrid kex = bytes_eq kex (codes "mlkem768x25519-sha256")
 
 abbrev pub ed25519 : List ℕ
 ed25519 = codes "ssh-ed25519"
@@ -41,9 +48,17 @@ abbrev pub key_lens : Bool → KeyLens
 key_lens true = record { iv = 12; enc = 32; mac = 0 }
 key_lens false = record { iv = 0; enc = 64; mac = 0 }
 
+-- what is drawn of 32 random bytes by curve25519-sha256, and by diffie-hellman-group14-sha256
+abbrev pub scalar_of : List ℕ → List ℕ
+scalar_of random = expanded random Curve25519 0
+
+abbrev pub exponent_of : List ℕ → List ℕ
+exponent_of random = expanded random Group14 0
+
 -- the share of 32 random bytes
 unfoldable pub share : List ℕ → List ℕ → List ℕ
-share kex random = if is_group14 kex then group14_share random else x25519 random base_point
+share kex random =
+    if is_group14 kex then group14_share (exponent_of random) else if is_hybrid kex then hybrid_share random else x25519 (scalar_of random) base_point
 
 -- the number that is shared, where it isn't zero
 unfoldable pub shared_secret : List ℕ → Option (List ℕ)
@@ -52,12 +67,17 @@ shared_secret secret = if bytes_eq secret (replicate 32 0) then None else Some (
 -- what 32 random bytes and the peer's share make, by a method that is known
 unfoldable pub shared : List ℕ → List ℕ → List ℕ → Option (List ℕ)
 shared kex random peer =
-    if is_group14 kex then group14_shared random peer
-    else if is_curve25519 kex && (length peer == 32) then shared_secret (x25519 random peer)
+    if is_group14 kex then group14_shared (exponent_of random) peer
+    else if is_hybrid kex then hybrid_shared random peer
+    else if is_curve25519 kex && (length peer == 32) then shared_secret (x25519 (scalar_of random) peer)
     else None
 
 abbrev pub response_with : List ℕ → List ℕ → ResponseData
 response_with own body = record { share = own; shared = body }
+
+-- what the server answers: in the hybrid its share depends on the client's
+unfoldable pub respond : List ℕ → List ℕ → List ℕ → Option ResponseData
+respond kex random peer = if is_hybrid kex then hybrid_respond random peer else option_map (response_with (share kex random)) (shared kex random peer)
 
 -- the name of the algorithm and the bytes, each as a string
 unfoldable pub wrapped : List ℕ → List ℕ
@@ -80,7 +100,7 @@ is_held alg secret = is_ed25519 alg && (length secret == 32)
 -- the answers of the suite; where it doesn't hold a private key, the public key stands in its place
 abbrev pub deployed : SuiteData
 deployed = record {
-  need = λ kex. if is_curve25519 kex || is_group14 kex then Signature else Encryption;
+  need = λ kex. if is_curve25519 kex || is_group14 kex || is_hybrid kex then Signature else Encryption;
   can = λ alg. record { signature = is_ed25519 alg || is_rsa alg; encryption = false };
   block = λ cipher. if is_aes256_gcm cipher then 16 else 8;
   tag_len = λ cipher mac. 16;
@@ -90,10 +110,10 @@ deployed = record {
   head = λ keys seq first. if is_aes256_gcm keys.cipher then number first else head keys.enc seq first;
   unseal = λ keys seq sealed. if is_aes256_gcm keys.cipher then gcm_unseal keys.iv keys.enc seq sealed else unseal keys.enc seq sealed;
   padding = λ seed seq len. stream (sha256 seed) seq 0 len;
-  share_form = λ kex. if is_group14 kex then Mpint else OctetString;
+  share_form = λ kex. if is_group14 kex then Mpint else if is_hybrid kex then Hybrid else OctetString;
   share = λ kex random. share kex random;
   shared = λ kex random peer. shared kex random peer;
-  respond = λ kex random peer. option_map (response_with (share kex random)) (shared kex random peer);
+  respond = λ kex random peer. respond kex random peer;
   digest = λ kex input. sha256 input;
   blob = λ alg secret. if is_held alg secret then wrapped (public_key secret) else public_part secret;
   holds = λ alg secret. is_held alg secret;

@@ -11,7 +11,8 @@ deployed_ciphers = codes "chacha20-poly1305@openssh.com" ∷ codes "aes256-gcm@o
 
 -- its key exchange methods
 abbrev pub deployed_methods : List (List ℕ)
-deployed_methods = codes "curve25519-sha256" ∷ codes "curve25519-sha256@libssh.org" ∷ codes "diffie-hellman-group14-sha256" ∷ []
+deployed_methods =
+    codes "mlkem768x25519-sha256" ∷ codes "curve25519-sha256" ∷ codes "curve25519-sha256@libssh.org" ∷ codes "diffie-hellman-group14-sha256" ∷ []
 
 -- whether the name is one of these
 abbrev pub is_one : List (List ℕ) → List ℕ → Bool

@@ -1,31 +1,31 @@
 -- The suite has the laws of one end.
 
-use Rattle.std.proofs.Common.{◌≡◌, ℕ, ◌+◌, ◌≤◌, Bool, true, false, List, ◌++◌, length, take, refl, sym, ap, ap₂, ◌∙◌, arith, cond, eqb}
-use Rattle.std.proofs.lemmas.Bool.{cond_both}
+use Rattle.std.proofs.Common.{◌≡◌, ℕ, ◌+◌, ◌≤◌, inl, inr, Bool, true, false, List, length, take, refl, sym, ap, ap₂, ◌∙◌, arith, cond, eqb}
+use Rattle.std.proofs.lemmas.Bool.{cases_Bool, cond_both}
 use Rattle.std.proofs.lemmas.List.{length-append, length-set}
-use Rattle.std.specs.Int.{w64, to_le_bytes}
-use Rattle.std.specs.Prelude.{◌&&◌, Option, None, Some, option_map, replicate, slice_index}
+use Rattle.std.specs.Prelude.{◌&&◌, codes, Option, None, Some, option_map, replicate}
+use Rattle.std.proofs.lemmas.Slice.Eq.{bytes_eq-Decides}
 use Rattle.std.specs.Str.{bytes_eq}
 use Rattle.sha2.proofs.Facts256.{length-sha256}
 use Rattle.sha2.specs.Sha256.{sha256}
-use Rattle.sshwire.specs.ByteLaws.{bytes_append}
 use Rattle.sshwire.specs.Types.{IsBytes, string}
 use Rattle.sshpacket.specs.KeysData.{KeysData}
 use Rattle.sshpacket.specs.Packet.{number}
 use Rattle.sshpacket.specs.Suite.{FitsShare, FitsShared, IsLawful, IsNumberBody, Keeps, ResponseData}
 use Rattle.sshwire.specs.declared.share_form.ShareForm.{ShareForm}
-use Rattle.sshwire.specs.declared.share_form.ShareForm.TheVariants.{Mpint, OctetString}
+use Rattle.sshwire.specs.declared.share_form.ShareForm.TheVariants.{Hybrid, Mpint, OctetString}
 use Rattle.sshpacket.specs.declared.limits.TheConstants.{BLOB_LIMIT, BLOCK_LIMIT, KEY_LIMIT, SHARE_LIMIT}
 use Rattle.sshpacket.specs.KeysElsewhere.{public_part}
 use Rattle.sshpacket.specs.KeysElsewhereLaws.{public_part_short}
-use Rattle.sshsuite.specs.Bits.{bytes_of_words}
-use Rattle.sshsuite.specs.Curve25519.{affine, base_point, x25519}
+use Rattle.sshsuite.specs.Curve25519.{base_point, x25519}
+use Rattle.sshsuite.specs.CurveBytes.{bytes_x25519, length_encode, length_x25519}
 use Rattle.sshsuite.specs.Edwards25519.{with_sign, encode_point}
 use Rattle.sshsuite.specs.declared.edwards25519.Point.{Point}
-use Rattle.sshsuite.specs.FieldElement.{encode}
-use Rattle.sshsuite.specs.Deployed.{deployed, ed25519, is_aes256_gcm, is_curve25519, is_group14, is_held, key_lens, response_with, share, shared, shared_secret, wrapped}
+use Rattle.sshsuite.specs.Deployed.{deployed, ed25519, exponent_of, is_aes256_gcm, is_curve25519, is_group14, is_held, is_hybrid, key_lens, respond, response_with, scalar_of, share, shared, shared_secret, wrapped}
 use Rattle.sshsuite.specs.Group14.{group14_share, group14_shared}
 use Rattle.sshsuite.specs.Group14Laws.{body_bytes, body_number, group14_share_bytes, group14_share_fits, group14_shared_given}
+use Rattle.sshsuite.specs.Hybrid.{hybrid_respond, hybrid_share, hybrid_shared}
+use Rattle.sshsuite.specs.HybridLaws as hybrid
 use Rattle.sshsuite.specs.MpintBody.{mpint_body}
 use Rattle.sshsuite.specs.Scalar.{bytes_of_halves, encode_scalar}
 use Rattle.sshsuite.specs.Gcm.{seal as gcm_seal, unseal as gcm_unseal}
@@ -33,7 +33,7 @@ use Rattle.sshsuite.specs.GcmLaws as gcm
 use Rattle.sshsuite.specs.Sealing.{head, seal, unseal}
 use Rattle.sshsuite.specs.SealingLaws.{bytes_seal, guard_none, head_of_seal, seal_length, some_of_packet, unseal_of_seal, unsealed}
 use Rattle.sshsuite.specs.Ed25519.{public_key, signature}
-use Rattle.sshsuite.specs.KeyStream.{bytes_low, bytes_stream, length_stream}
+use Rattle.sshsuite.specs.KeyStream.{bytes_stream, length_stream}
 
 cond_some : {A : Type 0} (b : Bool) (o : Option A) (y : A) → cond b o None ≡ Some y → o ≡ Some y
 cond_some true o y e = e
@@ -45,54 +45,33 @@ bytes_by xs ys e h = rw e at h
 number_by : (xs ys : List ℕ) → xs ≡ ys → IsNumberBody xs → IsNumberBody ys
 number_by xs ys e h = rw e at h
 
--- 32 bytes.
-length_bytes_of : (words : List ℕ) → length (bytes_of_words words) ≡ 32
-unfolding bytes_of_words
-length_bytes_of words = refl
-
-bytes_bytes_of : (words : List ℕ) → IsBytes (bytes_of_words words)
-unfolding bytes_of_words
-bytes_bytes_of words =
-    let w0 : List ℕ = to_le_bytes w64 (slice_index words 0) in
-    let w1 : List ℕ = to_le_bytes w64 (slice_index words 1) in
-    let w2 : List ℕ = to_le_bytes w64 (slice_index words 2) in
-    let w3 : List ℕ = to_le_bytes w64 (slice_index words 3) in
-    bytes_append (w0 ++ w1 ++ w2) w3
-    (bytes_append (w0 ++ w1) w2 (bytes_append w0 w1 (bytes_low 0 8 (slice_index words 0)) (bytes_low 0 8 (slice_index words 1))) (bytes_low 0 8 (slice_index words 2)))
-    (bytes_low 0 8 (slice_index words 3))
-
-length_encode : (a : List ℕ) → length (encode a) ≡ 32
-unfolding encode
-length_encode a = length_bytes_of _
-
-bytes_encode : (a : List ℕ) → IsBytes (encode a)
-unfolding encode
-bytes_encode a = bytes_bytes_of _
-
-length_x25519 : (scalar point : List ℕ) → length (x25519 scalar point) ≡ 32
-unfolding x25519 affine
-length_x25519 scalar point = length_encode _
-
-bytes_x25519 : (scalar point : List ℕ) → IsBytes (x25519 scalar point)
-unfolding x25519 affine
-bytes_x25519 scalar point = bytes_encode _
-
 -- Shares.
 share_short : (random : List ℕ) → length (x25519 random base_point) ≤ SHARE_LIMIT
 share_short random = let long = length_x25519 random base_point in omega (arith, long)
 
-both_share : (b : Bool) (random : List ℕ) → FitsShare (cond b Mpint OctetString) (cond b (group14_share random) (x25519 random base_point))
-both_share true random = group14_share_fits random
-both_share false random = share_short random
+hybrid_short : (random : List ℕ) → length (hybrid_share random) ≤ SHARE_LIMIT
+hybrid_short random = let is = hybrid.share_is random in let long = is.long in omega (arith, long)
 
-share_fits : (kex random : List ℕ) → FitsShare (cond (is_group14 kex) Mpint OctetString) (share kex random)
+abbrev form_of : Bool → Bool → ShareForm
+form_of b c = cond b Mpint (cond c Hybrid OctetString)
+
+both_share : (b c : Bool) (random : List ℕ) → FitsShare (form_of b c) (cond b (group14_share (exponent_of random)) (cond c (hybrid_share random) (x25519 (scalar_of random) base_point)))
+both_share true c random = group14_share_fits (exponent_of random)
+both_share false true random = hybrid_short random
+both_share false false random = share_short (scalar_of random)
+
+share_fits : (kex random : List ℕ) → FitsShare (form_of (is_group14 kex) (is_hybrid kex)) (share kex random)
 unfolding share
-share_fits kex random = both_share (is_group14 kex) random
+share_fits kex random = both_share (is_group14 kex) (is_hybrid kex) random
+
+both_share_bytes : (b c : Bool) (random : List ℕ) → IsBytes (cond b (group14_share (exponent_of random)) (cond c (hybrid_share random) (x25519 (scalar_of random) base_point)))
+both_share_bytes true c random = group14_share_bytes (exponent_of random)
+both_share_bytes false true random = let is = hybrid.share_is random in is.bytes
+both_share_bytes false false random = bytes_x25519 (scalar_of random) base_point
 
 share_bytes : (kex random : List ℕ) → IsBytes (share kex random)
 unfolding share
-share_bytes kex random =
-    cond_both (is_group14 kex) (group14_share random) (x25519 random base_point) (λ (xs : List ℕ). IsBytes xs) (λ _. group14_share_bytes random) (λ _. bytes_x25519 random base_point)
+share_bytes kex random = both_share_bytes (is_group14 kex) (is_hybrid kex) random
 
 -- The shared secret.
 shared_secret_given : (secret body : List ℕ) → shared_secret secret ≡ Some body → mpint_body secret ≡ body
@@ -103,19 +82,24 @@ shared_secret_given secret body e =
 curve_given : (b : Bool) (random peer body : List ℕ) → cond b (shared_secret (x25519 random peer)) None ≡ Some body → mpint_body (x25519 random peer) ≡ body
 curve_given b random peer body e = shared_secret_given (x25519 random peer) body (cond_some b (shared_secret (x25519 random peer)) body e)
 
-both_shared : (b c : Bool) (random peer body : List ℕ) → cond b (group14_shared random peer) (cond c (shared_secret (x25519 random peer)) None) ≡ Some body
-    → FitsShared (cond b Mpint OctetString) body × IsBytes body
-both_shared true c random peer body e = group14_shared_given random peer body e
-both_shared false c random peer body e =
-    let long = length_x25519 random peer in
-    let same = curve_given c random peer body e in (
-      number_by (mpint_body (x25519 random peer)) body same (body_number (x25519 random peer) (omega (arith, long))),
-      bytes_by (mpint_body (x25519 random peer)) body same (body_bytes (x25519 random peer) (bytes_x25519 random peer)),
+hybrid_given : (random peer body : List ℕ) → hybrid_shared random peer ≡ Some body → FitsShared Hybrid body × IsBytes body
+hybrid_given random peer body e = let is = hybrid.shared_is random peer body e in let long = is.long in (omega (arith, long), is.bytes)
+
+both_shared : (b h c : Bool) (random peer body : List ℕ)
+    → cond b (group14_shared (exponent_of random) peer) (cond h (hybrid_shared random peer) (cond c (shared_secret (x25519 (scalar_of random) peer)) None)) ≡ Some body
+    → FitsShared (form_of b h) body × IsBytes body
+both_shared true h c random peer body e = group14_shared_given (exponent_of random) peer body e
+both_shared false true c random peer body e = hybrid_given random peer body e
+both_shared false false c random peer body e =
+    let long = length_x25519 (scalar_of random) peer in
+    let same = curve_given c (scalar_of random) peer body e in (
+      number_by (mpint_body (x25519 (scalar_of random) peer)) body same (body_number (x25519 (scalar_of random) peer) (omega (arith, long))),
+      bytes_by (mpint_body (x25519 (scalar_of random) peer)) body same (body_bytes (x25519 (scalar_of random) peer) (bytes_x25519 (scalar_of random) peer)),
     )
 
-shared_fits : (kex random peer body : List ℕ) → shared kex random peer ≡ Some body → FitsShared (cond (is_group14 kex) Mpint OctetString) body × IsBytes body
+shared_fits : (kex random peer body : List ℕ) → shared kex random peer ≡ Some body → FitsShared (form_of (is_group14 kex) (is_hybrid kex)) body × IsBytes body
 unfolding shared
-shared_fits kex random peer body e = both_shared (is_group14 kex) (is_curve25519 kex && eqb (length peer) 32) random peer body e
+shared_fits kex random peer body e = both_shared (is_group14 kex) (is_hybrid kex) (is_curve25519 kex && eqb (length peer) 32) random peer body e
 
 share_by : (form : ShareForm) (xs ys : List ℕ) → xs ≡ ys → FitsShare form xs → FitsShare form ys
 share_by form xs ys e h = rw e at h
@@ -129,6 +113,26 @@ response_parts own None r e = cc
 response_parts own (Some body) r e =
     let is : response_with own body ≡ r = some_response (response_with own body) r e in
     (ap (λ (x : ResponseData). x.share) is, ap (λ (x : ResponseData). Some x.shared) is)
+
+-- A response, by each method.
+abbrev Fits : ShareForm → ResponseData → Type 0
+Fits form r = (FitsShare form r.share × FitsShared form r.shared) × (IsBytes r.share × IsBytes r.shared)
+
+hybrid_fits : (b : Bool) (random peer : List ℕ) (r : ResponseData) → b ≡ false → hybrid_respond random peer ≡ Some r → Fits (form_of b true) r
+hybrid_fits true random peer r off e = cc
+hybrid_fits false random peer r off e =
+    let is = hybrid.response_is random peer r e in
+    let share_long = is.0.long in
+    let shared_long = is.1.long in ((omega (arith, share_long), omega (arith, shared_long)), (is.0.bytes, is.1.bytes))
+
+other_fits : (kex random peer : List ℕ) (r : ResponseData) → option_map (response_with (share kex random)) (shared kex random peer) ≡ Some r
+    → Fits (form_of (is_group14 kex) (is_hybrid kex)) r
+other_fits kex random peer r e =
+    let parts = response_parts (share kex random) (shared kex random peer) r e in
+    let given = shared_fits kex random peer r.shared parts.1 in (
+      (share_by (form_of (is_group14 kex) (is_hybrid kex)) (share kex random) r.share parts.0 (share_fits kex random), given.0),
+      (bytes_by (share kex random) r.share parts.0 (share_bytes kex random), given.1),
+    )
 
 -- Host keys.
 length_point : (p : Point) → length (encode_point p) ≡ 32
@@ -183,6 +187,21 @@ mac_short : (b : Bool) → (key_lens b).mac ≤ KEY_LIMIT
 mac_short true = omega arith
 mac_short false = omega arith
 
+-- the names of the methods differ
+not_both : (kex : List ℕ) → is_hybrid kex ≡ true → is_group14 kex ≡ false
+unfolding is_hybrid is_group14
+not_both kex e =
+    let is : kex ≡ codes "mlkem768x25519-sha256" = (bytes_eq-Decides kex (codes "mlkem768x25519-sha256")).0 e in
+    ap (λ (xs : List ℕ). bytes_eq xs (codes "diffie-hellman-group14-sha256")) is
+
+response_given : (kex random peer : List ℕ) (r : ResponseData) → respond kex random peer ≡ Some r → Fits (form_of (is_group14 kex) (is_hybrid kex)) r
+unfolding respond
+response_given kex random peer r e =
+    elim (cases_Bool (is_hybrid kex)) [
+      | inl on ↦ let off = not_both kex on in rw (on, off) (hybrid_fits false random peer r refl (rw on at e))
+      | inr off ↦ other_fits kex random peer r (rw off at e)
+    ]
+
 pub deployed_lawful : IsLawful deployed
 deployed_lawful = record {
   seal_length = λ keys seq payload clear h p. let some = some_of_packet _ _ _ payload clear p.1 in
@@ -193,8 +212,7 @@ deployed_lawful = record {
   unsealed = λ keys seq sealed clear h bytes long e. both_unsealed (is_aes256_gcm keys.cipher) keys seq sealed clear bytes long e;
   share_fits = λ kex a h. share_fits kex a;
   shared_fits = λ kex a peer body h e. (shared_fits kex a peer body e).0;
-  response_fits = λ kex a peer r h e. let parts = response_parts (share kex a) (shared kex a peer) r e in
-      (share_by (cond (is_group14 kex) Mpint OctetString) (share kex a) r.share parts.0 (share_fits kex a), (shared_fits kex a peer r.shared parts.1).0);
+  response_fits = λ kex a peer r h e. (response_given kex a peer r e).0;
   block_low = λ cipher. cond_both (is_aes256_gcm cipher) 16 8 (λ (n : ℕ). 8 ≤ n) (λ _. omega arith) (λ _. omega arith);
   block_high = λ cipher. cond_both (is_aes256_gcm cipher) 16 8 (λ (n : ℕ). n ≤ BLOCK_LIMIT) (λ _. omega arith) (λ _. omega arith);
   tag_high = λ cipher mac. omega arith;
@@ -215,6 +233,5 @@ deployed_lawful = record {
   padding_bytes = λ seed seq len. bytes_stream (sha256 seed) seq 0 len;
   share_bytes = λ kex a h. share_bytes kex a;
   shared_bytes = λ kex a peer body h k e. (shared_fits kex a peer body e).1;
-  response_bytes = λ kex a peer r h k e. let parts = response_parts (share kex a) (shared kex a peer) r e in
-      (bytes_by (share kex a) r.share parts.0 (share_bytes kex a), (shared_fits kex a peer r.shared parts.1).1);
+  response_bytes = λ kex a peer r h k e. (response_given kex a peer r e).1;
 }

@@ -1,7 +1,7 @@
 -- aes256-gcm@openssh.com as the code has it.
 
 use Rattle.std.proofs.Common.{◌≡◌, add-one, refl}
-use Rattle.std.specs.Prelude.{ℕ, zero, suc, ◌+◌, ◌-◌, ◌*◌, ◌/◌, ◌%◌, ◌^◌, nat_lt, if◌then◌else◌, List, [], ◌++◌, length, take, drop, replicate, bit_xor, Option, None, Some}
+use Rattle.std.specs.Prelude.{ℕ, zero, suc, ◌+◌, ◌-◌, ◌*◌, ◌/◌, ◌%◌, ◌^◌, nat_lt, if◌then◌else◌, List, [], ◌∷◌, ◌++◌, length, take, drop, replicate, bit_xor, Option, None, Some}
 use Rattle.std.specs.Int.{w128, to_be_bytes}
 use Rattle.std.specs.Str.{bytes_eq}
 use Rattle.sshsuite.specs.Aes.{cipher, number_at, round_keys}
@@ -37,18 +37,40 @@ pub stream_more : (keys : List ℕ) (counter n : ℕ) → stream_to keys counter
 unfolding stream_to
 stream_more keys counter n = rw (add-one n) refl
 
+-- a block of the key stream, as a number
+unfoldable pub stream_number : List ℕ → ℕ → ℕ → ℕ
+stream_number keys counter i = cipher keys ((counter + (i + 2)) % 2 ^ 128)
+
+-- eight of them, from this one on
+unfoldable pub eight_from : List ℕ → ℕ → ℕ → List ℕ
+eight_from keys counter i =
+    stream_number keys counter i ∷ stream_number keys counter (i + 1) ∷ stream_number keys counter (i + 2) ∷ stream_number keys counter (i + 3)
+    ∷ stream_number keys counter (i + 4) ∷ stream_number keys counter (i + 5) ∷ stream_number keys counter (i + 6) ∷ stream_number keys counter (i + 7) ∷ []
+
+-- the first eight blocks that are encrypted: zeros, counter block 1, and six of the key stream
+unfoldable pub first_eight : List ℕ → ℕ → List ℕ
+first_eight keys counter =
+    cipher keys 0 ∷ cipher keys ((counter + 1) % 2 ^ 128)
+    ∷ stream_number keys counter 0 ∷ stream_number keys counter 1 ∷ stream_number keys counter 2
+    ∷ stream_number keys counter 3 ∷ stream_number keys counter 4 ∷ stream_number keys counter 5 ∷ []
+
 -- the mask of a packet of so many bytes: its length stays as it is
+abbrev pub mask_by : List ℕ → ℕ → ℕ → List ℕ
+mask_by keys counter len = replicate 4 0 ++ stream_to keys counter ((len - 4 + 15) / 16)
+
 unfoldable pub mask : List ℕ → List ℕ → ℕ → ℕ → List ℕ
-mask iv enc seq len = replicate 4 0 ++ stream_to (keys_of enc) (first_counter iv seq) ((len - 4 + 15) / 16)
+mask iv enc seq len = mask_by (keys_of enc) (first_counter iv seq) len
 
 -- a packet with this number, in clear or not, the other way
 unfoldable pub encrypted : List ℕ → List ℕ → ℕ → List ℕ → List ℕ
 encrypted iv enc seq packet = xored packet (mask iv enc seq (length packet))
 
 -- the tag of a sealed packet with this number, whose length is the additional data
+abbrev pub tag_by : List ℕ → ℕ → List ℕ → List ℕ
+tag_by keys counter sealed = to_be_bytes w128 (bit_xor (cipher keys ((counter + 1) % 2 ^ 128)) (ghash (cipher keys 0) (take 4 sealed) (drop 4 sealed)))
+
 unfoldable pub tag : List ℕ → List ℕ → ℕ → List ℕ → List ℕ
-tag iv enc seq sealed =
-    to_be_bytes w128 (bit_xor (cipher (keys_of enc) ((first_counter iv seq + 1) % 2 ^ 128)) (ghash (cipher (keys_of enc) 0) (take 4 sealed) (drop 4 sealed)))
+tag iv enc seq sealed = tag_by (keys_of enc) (first_counter iv seq) sealed
 
 -- the sealed packet with its tag
 unfoldable pub seal : List ℕ → List ℕ → ℕ → List ℕ → List ℕ

@@ -11,7 +11,7 @@ use Rattle.sshwire.specs.ByteLaws.{bytes_append, bytes_cons, bytes_none, bytes_t
 use Rattle.sshwire.specs.Types.{IsBytes}
 use Rattle.sshpacket.specs.Packet.{number}
 use Rattle.sshpacket.specs.Suite.{Keeps}
-use Rattle.sshsuite.specs.Gcm.{checked, encrypted, first_counter, keys_of, mask, seal, stream_block, stream_to, tag, unseal}
+use Rattle.sshsuite.specs.Gcm.{checked, encrypted, first_counter, keys_of, mask, mask_by, seal, stream_block, stream_to, tag, unseal}
 use Rattle.sshsuite.specs.KeyStream.{byte_low}
 use Rattle.sshsuite.specs.Masks.{bytes_xored, length_xored, xored, xored_twice}
 use Rattle.sshsuite.specs.SealingLaws.{guard_none, guard_some, number_front, same_bytes}
@@ -48,11 +48,10 @@ clear_front : IsBytes (replicate 4 0)
 clear_front =
     bytes_cons 0 (0 ∷ 0 ∷ 0 ∷ []) (omega arith) (bytes_cons 0 (0 ∷ 0 ∷ []) (omega arith) (bytes_cons 0 (0 ∷ []) (omega arith) (bytes_cons 0 [] (omega arith) bytes_none)))
 
-pub length_mask : (iv enc : List ℕ) (seq len : ℕ) → 4 ≤ len → len ≤ length (mask iv enc seq len)
-unfolding mask
-length_mask iv enc seq len h =
-    let back = length_stream (keys_of enc) (first_counter iv seq) ((len - 4 + 15) / 16) in
-    let both = length-append (replicate 4 0) (stream_to (keys_of enc) (first_counter iv seq) ((len - 4 + 15) / 16)) in
+pub length_mask : (keys : List ℕ) (counter len : ℕ) → 4 ≤ len → len ≤ length (mask_by keys counter len)
+length_mask keys counter len h =
+    let back = length_stream keys counter ((len - 4 + 15) / 16) in
+    let both = length-append (replicate 4 0) (stream_to keys counter ((len - 4 + 15) / 16)) in
     omega (arith, back, both)
 
 bytes_mask : (iv enc : List ℕ) (seq len : ℕ) → IsBytes (mask iv enc seq len)

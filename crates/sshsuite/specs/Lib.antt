@@ -13,6 +13,8 @@ pub mod SealingLaws
 pub mod Aes
 pub mod AesBytes
 pub mod Carryless
+pub mod SBox
+pub mod SlicedAes
 pub mod Ghash
 pub mod Gcm
 pub mod GcmLaws
@@ -21,8 +23,13 @@ pub mod LongNumbers
 pub mod Group14
 pub mod Group14Laws
 pub mod Rsa
+pub mod Expansion
+pub mod Hybrid
 pub mod Deployed
 pub mod DeployedInventory
+pub mod CurveBytes
+pub mod HybridLaws
+pub mod HybridAgreement
 pub mod DeployedLaws
 pub mod FieldValues
 pub mod FieldBytes

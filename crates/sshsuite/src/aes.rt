@@ -2,16 +2,16 @@
 //! all its bytes are worked on at once, so that no branch and no index depends on one.
 
 ghost use Rattle.std.specs.Prelude.{◌≡◌, ◌<◌, ◌≤◌, ◌+◌, length};
-ghost use Rattle.sshsuite.specs.Aes.{chosen, cipher, doubled, highest_bits, inverse, last_round, last_word, mapped, mix_columns, next_pair, number_at, others_raised, product, round, round_keys, shift_rows, sub_bytes, summed_words, turned, turned_words};
+ghost use Rattle.sshsuite.specs.SlicedAes.{joined, planes};
+ghost use Rattle.sshsuite.specs.Aes.{cipher, doubled, highest_bits, last_round, last_word, mix_columns, next_pair, number_at, others_raised, round, round_keys, shift_rows, sub_bytes, summed_words, turned_words};
+
+use crate::s_box::{Planes, circuit};
 
 /// The lowest bit of each byte.
-const LOWEST: u128 = 0x01010101010101010101010101010101;
-
-/// How many bits a byte has.
-const BYTE_BITS: u32 = 8;
+pub(crate) const LOWEST: u128 = 0x01010101010101010101010101010101;
 
 /// How many rounds there are but the last.
-const ROUNDS: usize = 13;
+pub(crate) const ROUNDS: usize = 13;
 
 /// The round keys of AES-256.
 pub(crate) type RoundKeys = [u128; 15];
@@ -69,79 +69,51 @@ fn doubled(a: u128) -> u128
     others_raised(a) ^ highest_bits(a).wrapping_mul(0x1b)
 }
 
-/// The bytes of b where a's have the bit with this number, else zeros.
-#[tactic(auto, unfolding(crate::specs::Aes::chosen))]
+/// The bits of each byte apart: of each number, the lowest bit of each byte.
+#[tactic(auto, unfolding(crate::specs::SlicedAes::planes))]
 #[inline(always)]
-fn chosen(a: u128, b: u128, i: u32) -> u128
-    requires { i < 8 }
-    ensures { result ≡ chosen a b i }
+fn planes(a: u128) -> Planes
+    ensures { result ≡ planes a }
 {
-    b & ((a >> i) & LOWEST).wrapping_mul(0xff)
+    [
+        a & LOWEST,
+        (a >> 1) & LOWEST,
+        (a >> 2) & LOWEST,
+        (a >> 3) & LOWEST,
+        (a >> 4) & LOWEST,
+        (a >> 5) & LOWEST,
+        (a >> 6) & LOWEST,
+        (a >> 7) & LOWEST,
+    ]
 }
 
-/// Each byte times the one at its place, in GF(2^8).
-#[tactic(auto, using(crate::specs::Aes::doubled_none, crate::specs::Aes::doubled_more, crate::specs::Aes::product_none, crate::specs::Aes::product_more), unfolding(crate::specs::Aes::product))]
-fn product(a: u128, b: u128) -> u128
-    ensures { result ≡ product a b }
-{
-    let mut sum = 0;
-    let mut power = b;
-    for i in 0..BYTE_BITS {
-        sum ^= chosen(a, power, i);
-        power = doubled(power);
-    }
-    sum
-}
-
-/// The inverse of each byte in GF(2^8), and 0 of 0: its power 254.
-#[tactic(auto, unfolding(crate::specs::Aes::inverse))]
-fn inverse(a: u128) -> u128
-    ensures { result ≡ inverse a }
-{
-    let a2 = product(a, a);
-    let a3 = product(a2, a);
-    let a6 = product(a3, a3);
-    let a12 = product(a6, a6);
-    let a15 = product(a12, a3);
-    let a30 = product(a15, a15);
-    let a60 = product(a30, a30);
-    let a120 = product(a60, a60);
-    let a240 = product(a120, a120);
-    product(product(a240, a12), a2)
-}
-
-/// Each byte turned left by one bit.
-#[tactic(auto, unfolding(crate::specs::Aes::turned))]
+/// The bytes of bits that stand apart.
+#[tactic(auto, unfolding(crate::specs::SlicedAes::joined))]
 #[inline(always)]
-fn turned(a: u128) -> u128
-    ensures { result ≡ turned a }
+pub(crate) fn joined(p: Planes) -> u128
+    ensures { result ≡ joined p }
 {
-    others_raised(a) ^ highest_bits(a)
-}
-
-/// The affine map of each byte (FIPS 197 section 5.1.1).
-#[tactic(auto, unfolding(crate::specs::Aes::mapped))]
-fn mapped(a: u128) -> u128
-    ensures { result ≡ mapped a }
-{
-    let b = turned(a);
-    let c = turned(b);
-    let d = turned(c);
-    let e = turned(d);
-    a ^ b ^ c ^ d ^ e ^ 0x63636363636363636363636363636363
+    p[0] ^ (p[1] << 1)
+        ^ (p[2] << 2)
+        ^ (p[3] << 3)
+        ^ (p[4] << 4)
+        ^ (p[5] << 5)
+        ^ (p[6] << 6)
+        ^ (p[7] << 7)
 }
 
 /// The S-box of each byte (FIPS 197 section 5.1.1).
-#[tactic(auto, unfolding(crate::specs::Aes::sub_bytes))]
+#[tactic(auto, using(crate::proofs::SlicedLemmas::by_circuit))]
 fn sub_bytes(a: u128) -> u128
     ensures { result ≡ sub_bytes a }
 {
-    mapped(inverse(a))
+    joined(circuit(planes(a))) ^ 0x63636363636363636363636363636363
 }
 
 /// The rows turned left, each by its number (FIPS 197 section 5.1.2).
 #[tactic(auto, unfolding(crate::specs::Aes::shift_rows))]
-fn shift_rows(a: u128) -> u128
+#[inline(always)]
+pub(crate) fn shift_rows(a: u128) -> u128
     ensures { result ≡ shift_rows a }
 {
     (a & 0xff000000ff000000ff000000ff000000)
@@ -153,7 +125,7 @@ fn shift_rows(a: u128) -> u128
 /// The bytes of each word of 32 bits turned left by one place (FIPS 197 section 5.2: RotWord).
 #[tactic(auto, unfolding(crate::specs::Aes::turned_words))]
 #[inline(always)]
-fn turned_words(a: u128) -> u128
+pub(crate) fn turned_words(a: u128) -> u128
     ensures { result ≡ turned_words a }
 {
     ((a << 8) & 0xffffff00ffffff00ffffff00ffffff00)

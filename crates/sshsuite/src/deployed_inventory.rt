@@ -7,8 +7,8 @@ use crate::deployed_suite::DeployedSuite;
 use crate::keyed_suite::KeyedSuite;
 use sshpacket::Inventory;
 
-/// The ciphers chacha20-poly1305@openssh.com and aes256-gcm@openssh.com, and the methods curve25519-sha256, under both of its
-/// names, and diffie-hellman-group14-sha256.
+/// The ciphers chacha20-poly1305@openssh.com and aes256-gcm@openssh.com, and the methods mlkem768x25519-sha256, curve25519-sha256,
+/// under both of its names, and diffie-hellman-group14-sha256.
 impl Inventory for DeployedSuite {
     ghost inventory = { λ _. deployed_inventory };
 
@@ -17,7 +17,8 @@ impl Inventory for DeployedSuite {
     }
 
     fn has_kex(&self, kex: &str) -> bool {
-        kex == "curve25519-sha256"
+        kex == "mlkem768x25519-sha256"
+            || kex == "curve25519-sha256"
             || kex == "curve25519-sha256@libssh.org"
             || kex == "diffie-hellman-group14-sha256"
     }

@@ -1,14 +1,16 @@
 //! Algorithms that are deployed, as a suite.
 
 ghost use Rattle.std.specs.Prelude.{◌≡◌, ◌<◌, ◌≤◌, ◌^◌, IfOk, drop, length, option_map};
-ghost use Rattle.sshsuite.specs.Deployed.{deployed, is_aes256_gcm, is_curve25519, is_ed25519, is_group14, is_held, is_verified, share, shared, shared_secret, verify, wrapped};
+ghost use Rattle.sshsuite.specs.Deployed.{deployed, is_aes256_gcm, is_curve25519, is_ed25519, is_group14, is_held, is_hybrid, is_verified, share, shared, shared_secret, verify, wrapped};
 ghost use Rattle.sshsuite.specs.DeployedLaws.{deployed_lawful};
 
 use crate::chacha20::stream;
 use crate::constant_time::is_equal;
 use crate::curve25519::{BASE_POINT, x25519};
 use crate::ed25519::{is_signature, public_key, signature};
+use crate::expansion::{Purpose, expanded};
 use crate::group14::{group14_share, group14_shared};
+use crate::hybrid::{hybrid_respond, hybrid_share, hybrid_shared};
 use crate::mpint::mpint_body;
 use crate::rsa::rsa_verify;
 use crate::rsa_fields::is_rsa;
@@ -23,7 +25,8 @@ use std::alloc::Global;
 /// The name of the algorithm of host keys and users' keys (RFC 8709 section 4).
 const ED25519: &str = "ssh-ed25519";
 
-/// A suite of algorithms that are deployed: the key exchange curve25519-sha256 (RFC 8731), also under the
+/// A suite of algorithms that are deployed: the key exchanges mlkem768x25519-sha256 (draft-ietf-sshm-mlkem-hybrid-kex), which holds
+/// against whoever breaks one of ML-KEM-768 and X25519 later, curve25519-sha256 (RFC 8731), also under the
 /// name curve25519-sha256@libssh.org, and diffie-hellman-group14-sha256 (RFC 8268) for older peers, keys of ssh-ed25519
 /// (RFC 8709), signatures of rsa-sha2-256 and rsa-sha2-512 (RFC 8332) by others' keys, and the ciphers
 /// chacha20-poly1305@openssh.com (OpenSSH PROTOCOL.chacha20poly1305) and aes256-gcm@openssh.com (RFC 5647 as OpenSSH
@@ -53,6 +56,12 @@ const ED25519: &str = "ssh-ed25519";
 /// SHA-512 and ChaCha20 are the kit's. That two ends agree is proved of diffie-hellman-group14-sha256 alone
 /// ([`group14_law`](crate::group14_law)), and that a signature is verified by its own key isn't.
 ///
+/// Each method draws of the random bytes of an exchange by SHAKE256 of them and a byte of its own: so a share that was sent
+/// by one method tells nothing of what another draws, also where a guess was wrong and both are sent.
+///
+/// By mlkem768x25519-sha256 two ends come to two secrets where decapsulation fails, which FIPS 203 puts below 2^-164: the
+/// client then finds the signature wrong (F11).
+///
 /// No branch and no index depends on a secret, as the code is written; no contract promises it of what a
 /// compiler makes. What time does tell is how many zeros a shared secret begins with, since it goes as an
 /// mpint into the exchange hash (RFC 8731 section 3.1, RFC 4253 section 8). How long a verification takes tells of its arguments, which
@@ -64,7 +73,7 @@ impl Suite for DeployedSuite {
     ghost meaning = { λ _. deployed };
 
     fn need(&self, kex: &str) -> Need {
-        if is_curve25519(kex) || is_group14(kex) {
+        if is_curve25519(kex) || is_group14(kex) || is_hybrid(kex) {
             Need::Signature
         } else {
             Need::Encryption
@@ -143,6 +152,8 @@ impl Suite for DeployedSuite {
     fn share_form(&self, kex: &str) -> ShareForm {
         if is_group14(kex) {
             ShareForm::Mpint
+        } else if is_hybrid(kex) {
+            ShareForm::Hybrid
         } else {
             ShareForm::OctetString
         }
@@ -162,6 +173,7 @@ impl Suite for DeployedSuite {
         shared(alloc, kex, random, peer)
     }
 
+    #[tactic(auto, unfolding(crate::specs::Deployed::respond))]
     fn respond(
         &self,
         alloc: Global,
@@ -169,6 +181,9 @@ impl Suite for DeployedSuite {
         random: &[u8],
         peer: &[u8],
     ) -> Result<Option<Response>, Memory> {
+        if is_hybrid(kex) {
+            return hybrid_respond(alloc, random, peer);
+        }
         let Some(shared) = shared(alloc, kex, random, peer)? else {
             return Ok(None);
         };
@@ -235,6 +250,14 @@ fn is_group14(kex: &str) -> bool
     kex == "diffie-hellman-group14-sha256"
 }
 
+/// Whether this is the name of mlkem768x25519-sha256.
+#[tactic(auto, unfolding(crate::specs::Deployed::is_hybrid))]
+fn is_hybrid(kex: &str) -> bool
+    ensures { result ≡ is_hybrid kex.now }
+{
+    kex == "mlkem768x25519-sha256"
+}
+
 /// Whether this is the name of aes256-gcm.
 #[tactic(auto, unfolding(crate::specs::Deployed::is_aes256_gcm))]
 fn is_aes256_gcm(cipher: &str) -> bool
@@ -259,16 +282,6 @@ fn is_ed25519(alg: &str) -> bool
     alg == ED25519
 }
 
-/// The random bytes as a scalar.
-fn scalar_of(random: &[u8]) -> [u8; 32]
-    requires { length random.now ≡ 32 }
-    ensures { result ≡ random.now }
-{
-    let mut scalar = [0; 32];
-    scalar.copy_from_slice(random);
-    scalar
-}
-
 /// The share of these random bytes (RFC 4253 section 8, RFC 7748 section 6.1).
 #[tactic(auto, unfolding(crate::specs::Deployed::share))]
 fn share(alloc: Global, kex: &str, random: &[u8]) -> Result<Vec<u8>, Memory>
@@ -276,9 +289,14 @@ fn share(alloc: Global, kex: &str, random: &[u8]) -> Result<Vec<u8>, Memory>
     ensures { IfOk result (λ v. v.items ≡ share kex.now random.now) }
 {
     if is_group14(kex) {
-        group14_share(alloc, random)
+        group14_share(alloc, &expanded(random, Purpose::Group14, 0))
+    } else if is_hybrid(kex) {
+        hybrid_share(alloc, random)
     } else {
-        Ok(Vec::from_slice(alloc, &x25519(scalar_of(random), &BASE_POINT))?)
+        Ok(Vec::from_slice(
+            alloc,
+            &x25519(expanded(random, Purpose::Curve25519, 0), &BASE_POINT),
+        )?)
     }
 }
 
@@ -290,9 +308,14 @@ fn shared(alloc: Global, kex: &str, random: &[u8], peer: &[u8]) -> Result<Option
     ensures { IfOk result (λ o. option_map (λ v. v.items) o ≡ shared kex.now random.now peer.now) }
 {
     if is_group14(kex) {
-        group14_shared(alloc, random, peer)
+        group14_shared(alloc, &expanded(random, Purpose::Group14, 0), peer)
+    } else if is_hybrid(kex) {
+        hybrid_shared(alloc, random, peer)
     } else if is_curve25519(kex) && peer.len() == 32 {
-        shared_secret(alloc, x25519(scalar_of(random), peer))
+        shared_secret(
+            alloc,
+            x25519(expanded(random, Purpose::Curve25519, 0), peer),
+        )
     } else {
         Ok(None)
     }

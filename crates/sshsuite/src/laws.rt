@@ -2,6 +2,7 @@
 //! written again. No function of the crate calls them.
 
 ghost use Rattle.sshpacket.specs.KeysElsewhere.{public_part};
+ghost use Rattle.sshpacket.specs.Suite.{ResponseData};
 ghost use Rattle.std.specs.Prelude.{false, ◌≡◌, ◌<◌, ◌+◌, ◌*◌, ◌%◌, ◌^◌, List, Some, true, ℕ, bit_xor, length, slice_index};
 ghost use Rattle.sshwire.specs.Types.{IsBytes};
 ghost use Rattle.sshsuite.specs.Aes.{cipher, number_at, round_keys};
@@ -19,12 +20,16 @@ ghost use Rattle.sshsuite.specs.FieldBytes.{bytes_of_number};
 ghost use Rattle.sshsuite.specs.FieldElement.{add, decode, encode, mul, scaled, squared, sub};
 ghost use Rattle.sshsuite.specs.FieldValues.{AreBelow, field, value};
 ghost use Rattle.sshsuite.specs.Poly1305.{tag_of};
+ghost use Rattle.sshsuite.specs.Expansion.{expansion_input};
 ghost use Rattle.sshsuite.specs.Ghash.{ghash};
 ghost use Rattle.sshsuite.specs.Group14.{generator, group14_share, group14_shared, is_within, number_body, peer_number, power};
+ghost use Rattle.sshsuite.specs.Hybrid.{hybrid_respond, hybrid_share, hybrid_shared};
+ghost use Rattle.sshsuite.specs.HybridAgreement.{Decrypts, Meets};
 ghost use Rattle.sshsuite.specs.PolyNumbers.{mac};
 ghost use Rattle.sshsuite.specs.Rsa.{digest_info, is_rsa, is_signed_by, key_blob, signature_blob};
 ghost use Rattle.sshsuite.specs.X25519Numbers.{x25519_number};
 ghost use Rattle.sshsuite.specs.declared.edwards25519.Point.{Point};
+ghost use Rattle.sshsuite.specs.declared.expansion.Purpose.{Purpose};
 
 /// The law of elements whose limbs are below 2^52: sums, differences, products, squares and products by a number
 /// below 2^32 (`scaled`) have such limbs too, and are those modulo 2^255 - 19; limbs that are read of 32 bytes have the number of these without their
@@ -102,6 +107,21 @@ pub fn group14_law()
     ensures read { (n : ℕ) → is_within n ≡ true → peer_number (number_body n) ≡ Some n }
     ensures agreed { (client server : List ℕ) → is_within (power generator client) ≡ true → is_within (power generator server) ≡ true
         → group14_shared client (group14_share server) ≡ group14_shared server (group14_share client) }
+{}
+
+/// The law of what is drawn: for two purposes, and of two random byte strings, two inputs are expanded. So no method sees bytes that
+/// another one draws.
+pub fn draws_law()
+    ensures apart { (random other : List ℕ) (one two : Purpose) → expansion_input random one ≡ expansion_input other two → (random ≡ other) × (one ≡ two) }
+{}
+
+/// The law of mlkem768x25519-sha256: what a server answers to a client's share gives the client the server's secret, if the client
+/// decrypts the message that the server has encapsulated (`Decrypts`), and each scalar of X25519 times the other's point is one point
+/// (`Meets`). The first isn't true of all random bytes: it fails for less than one choice in 2^164 (FIPS 203 table 1). The second isn't
+/// proved.
+pub fn hybrid_law()
+    ensures agreed { (client server : List ℕ) (response : ResponseData) → Decrypts client server → Meets client server
+        → hybrid_respond server (hybrid_share client) ≡ Some response → hybrid_shared client response.share ≡ Some response.shared }
 {}
 
 /// The law of rsa-sha2-256 and rsa-sha2-512: by a public key of RFC 4253 section 6.6 and a signature of RFC 8332 section 3 what

@@ -1,6 +1,6 @@
 //! Powers modulo odd numbers of at most 8192 bits, where all numbers are public: how long they take tells of each.
 
-ghost use Rattle.std.specs.Prelude.{◌≡◌, ◌<◌, ◌+◌, ◌-◌, ◌*◌, ◌%◌, ◌^◌, ◌==◌, ℕ, length, slice_index};
+ghost use Rattle.std.specs.Prelude.{◌≡◌, ◌<◌, ◌≤◌, ◌+◌, ◌-◌, ◌*◌, ◌%◌, ◌^◌, ◌==◌, ℕ, length, slice_index, take};
 ghost use Rattle.sshsuite.specs.Group14.{number_high};
 ghost use Rattle.sshsuite.specs.LongNumbers.{number_of, weight};
 
@@ -48,15 +48,48 @@ fn inverse_of(odd: u64) -> u64
     refined(odd, half)
 }
 
-/// The product of two numbers and of one through 2^8192, modulo the modulus.
-fn times(a: &Number, b: &Number, modulus: &Number, inverse: u64) -> Number
+/// How many words there are up to the last that isn't zero.
+fn used_words(number: &Number) -> usize
+    ensures within { result ≤ 128 }
+    ensures holds { number_of number.now < weight result }
+{
+    let mut used = 0;
+    for i in 0..number.len() {
+        if number[i] != 0 {
+            used = i + 1;
+        }
+    }
+    used
+}
+
+/// The first words of a number, which has no others.
+fn front(number: &Number, words: usize) -> &[u64]
+    requires within { words ≤ 128 }
+    requires holds { number_of number.now < weight words }
+    ensures taken { result.now ≡ take words number.now }
+    ensures long { length result.now ≡ words }
+    ensures same { number_of result.now ≡ number_of number.now }
+{
+    &number[..words]
+}
+
+/// The product of two numbers and of one through 2^64 for each word of the modulus, modulo that.
+fn times(a: &Number, b: &Number, modulus: &Number, words: usize, inverse: u64) -> Number
+    requires some { 0 < words }
+    requires within { words ≤ 128 }
     requires inverse { (slice_index modulus.now 0 * inverse + 1) % 2 ^ 64 ≡ 0 }
+    requires modulus { number_of modulus.now < weight words }
+    requires a { number_of a.now < weight words }
     requires b { number_of b.now < number_of modulus.now }
-    ensures remainder { weight 128 * number_of result % number_of modulus.now ≡ number_of a.now * number_of b.now % number_of modulus.now }
+    ensures remainder { weight words * number_of result % number_of modulus.now ≡ number_of a.now * number_of b.now % number_of modulus.now }
     ensures below { number_of result < number_of modulus.now }
 {
+    let a = front(a, words);
+    let b = front(b, words);
+    let modulus = front(modulus, words);
     let mut out = [0; 128];
-    product(&mut out, a, b, modulus, inverse);
+    let (low, _) = out.split_at_mut(words);
+    product(low, a, b, modulus, inverse);
     out
 }
 
@@ -66,37 +99,50 @@ fn power_step(
     base: &Number,
     exponent: u64,
     modulus: &Number,
+    words: usize,
     inverse: u64,
 ) -> Number
+    requires some { 0 < words }
+    requires within { words ≤ 128 }
+    requires modulus { number_of modulus.now < weight words }
     requires inverse { (slice_index modulus.now 0 * inverse + 1) % 2 ^ 64 ≡ 0 }
     requires power { number_of power.now < number_of modulus.now }
     requires base { number_of base.now < number_of modulus.now }
-    ensures powers { (n : ℕ) → weight 128 ^ n * number_of power.now % number_of modulus.now ≡ number_of base.now ^ (n + 1) % number_of modulus.now
-        → weight 128 ^ (2 * n + 1 + exponent % 2) * number_of result % number_of modulus.now ≡ number_of base.now ^ (2 * n + 1 + exponent % 2 + 1) % number_of modulus.now }
+    ensures powers { (n : ℕ) → weight words ^ n * number_of power.now % number_of modulus.now ≡ number_of base.now ^ (n + 1) % number_of modulus.now
+        → weight words ^ (2 * n + 1 + exponent % 2) * number_of result % number_of modulus.now ≡ number_of base.now ^ (2 * n + 1 + exponent % 2 + 1) % number_of modulus.now }
     ensures below { number_of result < number_of modulus.now }
 {
-    let square = times(power, power, modulus, inverse);
+    let square = times(power, power, modulus, words, inverse);
     if exponent % 2 == 1 {
-        times(&square, base, modulus, inverse)
+        times(&square, base, modulus, words, inverse)
     } else {
         square
     }
 }
 
-/// The power, which 2^8192 divides once less than the exponent tells: so the base begins as it is.
-fn scaled_power(base: &Number, exponent: u64, modulus: &Number, inverse: u64) -> Number
+/// The power, which 2^64 for each word of the modulus divides once less than the exponent tells: so the base begins as it is.
+fn scaled_power(
+    base: &Number,
+    exponent: u64,
+    modulus: &Number,
+    words: usize,
+    inverse: u64,
+) -> Number
+    requires words { 0 < words }
+    requires within { words ≤ 128 }
+    requires modulus { number_of modulus.now < weight words }
     requires inverse { (slice_index modulus.now 0 * inverse + 1) % 2 ^ 64 ≡ 0 }
     requires base { number_of base.now < number_of modulus.now }
     requires some { 0 < exponent }
     requires exponent { exponent < 2 ^ 32 }
-    ensures power { weight 128 ^ (exponent - 1) * number_of result % number_of modulus.now ≡ number_of base.now ^ exponent % number_of modulus.now }
+    ensures power { weight words ^ (exponent - 1) * number_of result % number_of modulus.now ≡ number_of base.now ^ exponent % number_of modulus.now }
     ensures below { number_of result < number_of modulus.now }
 {
     let mut power = *base;
     for i in 0u64..32 {
-        let front = exponent >> (31 - i);
-        if front > 1 {
-            power = power_step(&power, base, front, modulus, inverse);
+        let bits = exponent >> (31 - i);
+        if bits > 1 {
+            power = power_step(&power, base, bits, modulus, words, inverse);
         }
     }
     power
@@ -109,8 +155,8 @@ fn is_same(a: &Number, b: &Number) -> bool
     is_below(a, b) == 0 && is_below(b, a) == 0
 }
 
-/// Whether a number to an exponent is another one, modulo an odd number. Both sides are divided by 2^8192 as often as the
-/// exponent tells.
+/// Whether a number to an exponent is another one, modulo an odd number. Both sides are divided, as often as the exponent tells, by 2^64
+/// for each word of that.
 pub(crate) fn is_power(base: &Number, exponent: u64, found: &Number, modulus: &Number) -> bool
     requires odd { number_of modulus.now % 2 ≡ 1 }
     requires one { 1 < number_of modulus.now }
@@ -122,10 +168,11 @@ pub(crate) fn is_power(base: &Number, exponent: u64, found: &Number, modulus: &N
     if is_below(found, modulus) == 0 {
         return false;
     }
+    let words = used_words(modulus);
     let inverse = inverse_of(modulus[0]);
-    let power = scaled_power(base, exponent, modulus, inverse);
-    let scale = scaled_power(&one(), exponent, modulus, inverse);
-    let own = times(&power, &one(), modulus, inverse);
-    let other = times(&scale, found, modulus, inverse);
+    let power = scaled_power(base, exponent, modulus, words, inverse);
+    let scale = scaled_power(&one(), exponent, modulus, words, inverse);
+    let own = times(&power, &one(), modulus, words, inverse);
+    let other = times(&scale, found, modulus, words, inverse);
     is_same(&own, &other)
 }

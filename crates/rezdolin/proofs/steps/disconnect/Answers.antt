@@ -4,7 +4,7 @@ use Rattle.rezdolin.specs.declared.parts_of.Parts.{Parts}
 use Rattle.rezdolin.specs.declared.steps.NoStep.{NoStep}
 use Rattle.rezdolin.specs.Frames.{framed}
 use Rattle.rezdolin.specs.StepsView.{IsReady, WhyNotFrom}
-use Rattle.rezdolin.proofs.StepLemmas.{leaves_so, taken_so, why_from}
+use Rattle.rezdolin.proofs.StepLemmas.{frame_so, leaves_so, taken_so, why_from}
 use Rattle.rezdolin.proofs.steps.disconnect.Goals as goal
 
 pub returns-clause-came : goal.returns-clause-came
@@ -12,6 +12,7 @@ returns-clause-came c = λ parts bytes ready framed_is. (
   refl,
   record {
     taken = taken_so parts c.args.ready.now.config ready.read ready.config;
+    written_for = frame_so parts bytes c.args.text.now c.args.ready.now.digest ready.digest framed_is;
     none = c.new.ensures.items;
     nothing = c.new-2.ensures.items;
     end_is = c.numbers.ensures;

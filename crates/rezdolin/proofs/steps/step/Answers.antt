@@ -6,7 +6,7 @@ use Rattle.rezdolin.specs.Endpoints.{digest_of}
 use Rattle.rezdolin.specs.Frames.{framed}
 use Rattle.rezdolin.specs.Steps.{ComesTo, StandsHere}
 use Rattle.rezdolin.specs.StepsView.{IsReady, WhyNotFrom}
-use Rattle.rezdolin.proofs.StepLemmas.{steps_so, why_from}
+use Rattle.rezdolin.proofs.StepLemmas.{frame_so, steps_so, why_from}
 use Rattle.rezdolin.proofs.steps.step.Goals as goal
 
 pub returns-clause-came : goal.returns-clause-came
@@ -14,6 +14,7 @@ returns-clause-came c = λ parts bytes ready framed_is.
     let came = c.in_ok-came_to.field-0 in
     let same = c.in_ok-came_to.ensures.same in
     let piece = c.args.piece.now in (
+      frame_so parts bytes c.args.text.now c.args.ready.now.digest ready.digest framed_is,
       subst (λ (n : ℕ). n ≤ length piece) (sym same.0) c.in_ok-used.ensures.within,
       (λ goes_on. let o = c.in_ok-came_to.ensures.opens goes_on in same.0 ∙ c.in_ok-used.ensures.whole o.0 o.1),
       subst (λ (n : ℕ). ComesTo parts (StandsHere (digest_of parts) bytes) (take n piece) came.sent.items came.end came.record.items came.told.items) (sym same.0)

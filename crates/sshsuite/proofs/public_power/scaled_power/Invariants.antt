@@ -4,4 +4,4 @@ use Rattle.sshsuite.proofs.PublicPowerLemmas.{IsScaled}
 use Rattle.sshsuite.proofs.public_power.scaled_power.Given as goal
 
 abbrev pub invariant-loop-i : goal.invariant-loop-i
-invariant-loop-i l = IsScaled (weight 128) l.exponent (number_of l.base) (number_of l.modulus) l.i (number_of l.power) × (number_of l.power < number_of l.modulus)
+invariant-loop-i l = IsScaled (weight l.words) l.exponent (number_of l.base) (number_of l.modulus) l.i (number_of l.power) × (number_of l.power < number_of l.modulus)

@@ -1,0 +1,112 @@
+-- What is seen by computing: of each byte its image by the circuit.
+
+use Rattle.std.proofs.Common.{◌≡◌, ℕ, zero, suc, ◌*◌, ◌/◌, ◌%◌, ◌^◌, ◌<◌, inl, inr, Bool, true, false, List, [], ◌∷◌, refl, arith, cond, eqb, ltb}
+use Rattle.std.proofs.lemmas.Bool.{cases_Bool, eqb-false, eqb-true, ltb-true}
+use Rattle.std.specs.Prelude.{bit_xor, slice_index}
+use Rattle.sshsuite.specs.AesBytes.{byte_inverse, byte_mapped, byte_product, byte_product_to, byte_turned, s_box, xtime, xtime_by}
+use Rattle.sshsuite.specs.SBox.{circuit}
+
+-- a test of all numbers below another
+abbrev all_below : ℕ → (ℕ → Bool) → Bool
+all_below zero test = true
+all_below (suc n) test = cond (test n) (all_below n test) false
+
+guarded : (a b : Bool) → cond a b false ≡ true → (a ≡ true) × (b ≡ true)
+guarded true b e = (refl, e)
+guarded false b e = cc
+
+at_each : (n : ℕ) (test : ℕ → Bool) → all_below n test ≡ true → (k : ℕ) → k < n → test k ≡ true
+at_each zero test e k h = absurd (omega arith)
+at_each (suc n) test e k h =
+    let both = guarded (test n) (all_below n test) e in
+    elim (cases_Bool (eqb k n)) [
+      | inl is ↦ let at : k ≡ n = eqb-true k n is in rw at both.0
+      | inr isnt ↦ let off = eqb-false k n isnt in at_each n test both.1 k (below k n h off)
+    ]
+  where
+    below : (k n : ℕ) → k < suc n → (k ≡ n → ⊥) → k < n
+    below k n h off = omega arith
+
+-- the bits of a byte
+unfoldable pub byte_planes : ℕ → List ℕ
+byte_planes b =
+    b / 2 ^ 0 % 2 ∷ b / 2 ^ 1 % 2 ∷ b / 2 ^ 2 % 2 ∷ b / 2 ^ 3 % 2 ∷ b / 2 ^ 4 % 2 ∷ b / 2 ^ 5 % 2 ∷ b / 2 ^ 6 % 2 ∷ b / 2 ^ 7 % 2 ∷ []
+
+-- the byte of bits
+unfoldable pub byte_joined : List ℕ → ℕ
+byte_joined p =
+    bit_xor (bit_xor (bit_xor (bit_xor (bit_xor (bit_xor (bit_xor (slice_index p 0) (slice_index p 1 * 2 ^ 1))
+    (slice_index p 2 * 2 ^ 2)) (slice_index p 3 * 2 ^ 3)) (slice_index p 4 * 2 ^ 4))
+    (slice_index p 5 * 2 ^ 5)) (slice_index p 6 * 2 ^ 6)) (slice_index p 7 * 2 ^ 7)
+
+fits : ℕ → Bool
+fits b = eqb (bit_xor (byte_joined (circuit (byte_planes b))) 0x63) (s_box b)
+
+all_fit : all_below 256 fits ≡ true
+unfolding fits byte_joined circuit byte_planes s_box byte_mapped byte_turned byte_product byte_inverse byte_product_to xtime_by xtime
+all_fit = refl
+
+pub byte_by_circuit : (b : ℕ) → b < 256 → bit_xor (byte_joined (circuit (byte_planes b))) 0x63 ≡ s_box b
+unfolding fits
+byte_by_circuit b h = eqb-true (bit_xor (byte_joined (circuit (byte_planes b))) 0x63) (s_box b) (at_each 256 fits all_fit b h)
+
+-- its image has bits
+has_bit : ℕ → ℕ → Bool
+has_bit b k = ltb (slice_index (circuit (byte_planes b)) k) 2
+
+has_bits : ℕ → Bool
+has_bits b = all_below 8 (has_bit b)
+
+all_bits : all_below 256 has_bits ≡ true
+unfolding has_bits has_bit circuit byte_planes
+all_bits = refl
+
+pub image_bit : (b k : ℕ) → b < 256 → k < 8 → slice_index (circuit (byte_planes b)) k < 2
+unfolding has_bits has_bit
+image_bit b k h low = ltb-true (slice_index (circuit (byte_planes b)) k) 2 (at_each 8 (has_bit b) (at_each 256 has_bits all_bits b h) k low)
+
+-- the bits of a byte are it
+is_own : ℕ → Bool
+is_own b = eqb (byte_joined (byte_planes b)) b
+
+all_own : all_below 256 is_own ≡ true
+unfolding is_own byte_joined byte_planes
+all_own = refl
+
+pub own_bits : (b : ℕ) → b < 256 → byte_joined (byte_planes b) ≡ b
+unfolding is_own
+own_bits b h = eqb-true (byte_joined (byte_planes b)) b (at_each 256 is_own all_own b h)
+
+-- each bit of the image, with the constant
+bit_fits : ℕ → ℕ → Bool
+bit_fits b k = eqb (bit_xor (slice_index (circuit (byte_planes b)) k) (0x63 / 2 ^ k % 2)) (s_box b / 2 ^ k % 2)
+
+bits_fit : ℕ → Bool
+bits_fit b = all_below 8 (bit_fits b)
+
+all_bits_fit : all_below 256 bits_fit ≡ true
+unfolding bits_fit bit_fits circuit byte_planes s_box byte_mapped byte_turned byte_product byte_inverse byte_product_to xtime_by xtime
+all_bits_fit = refl
+
+pub image_at : (b k : ℕ) → b < 256 → k < 8 → bit_xor (slice_index (circuit (byte_planes b)) k) (0x63 / 2 ^ k % 2) ≡ s_box b / 2 ^ k % 2
+unfolding bits_fit bit_fits
+image_at b k h low =
+    eqb-true (bit_xor (slice_index (circuit (byte_planes b)) k) (0x63 / 2 ^ k % 2)) (s_box b / 2 ^ k % 2)
+    (at_each 8 (bit_fits b) (at_each 256 bits_fit all_bits_fit b h) k low)
+
+-- each bit of a byte times x: the one below it, and the highest where 0x1b has one
+doubled_fits : ℕ → ℕ → Bool
+doubled_fits b k = eqb (bit_xor (b * 2 / 2 ^ k % 2) (cond (eqb (0x1b / 2 ^ k % 2) 1) (b / 2 ^ 7 % 2) 0)) (xtime b / 2 ^ k % 2)
+
+doubled_fit : ℕ → Bool
+doubled_fit b = all_below 8 (doubled_fits b)
+
+all_doubled_fit : all_below 256 doubled_fit ≡ true
+unfolding doubled_fit doubled_fits xtime
+all_doubled_fit = refl
+
+pub xtime_at : (b k : ℕ) → b < 256 → k < 8 → bit_xor (b * 2 / 2 ^ k % 2) (cond (eqb (0x1b / 2 ^ k % 2) 1) (b / 2 ^ 7 % 2) 0) ≡ xtime b / 2 ^ k % 2
+unfolding doubled_fit doubled_fits
+xtime_at b k h low =
+    eqb-true (bit_xor (b * 2 / 2 ^ k % 2) (cond (eqb (0x1b / 2 ^ k % 2) 1) (b / 2 ^ 7 % 2) 0)) (xtime b / 2 ^ k % 2)
+    (at_each 8 (doubled_fits b) (at_each 256 doubled_fit all_doubled_fit b h) k low)

@@ -1,0 +1,27 @@
+-- When both ends of mlkem768x25519-sha256 come to one secret.
+
+use Rattle.std.specs.Prelude.{◌≡◌, ℕ, List}
+use Rattle.sshmlkem.specs.Kem.{encapsulated, keys_of}
+use Rattle.sshmlkem.specs.Pke.{decrypted, pke_keys}
+use Rattle.sshmlkem.specs.declared.kem.Encapsulated.{Encapsulated}
+use Rattle.sshmlkem.specs.declared.kem.KemKeys.{KemKeys}
+use Rattle.sshsuite.specs.Curve25519.{base_point, x25519}
+use Rattle.sshsuite.specs.Expansion.{expanded}
+use Rattle.sshsuite.specs.declared.expansion.Purpose.TheVariants.{HybridClient, HybridServer}
+
+-- the keys of a client, of its random bytes; and what a server encapsulates by them, of its own
+abbrev pub client_keys : List ℕ → KemKeys
+client_keys client = keys_of (expanded client HybridClient 0) (expanded client HybridClient 1)
+
+abbrev pub made_for : List ℕ → List ℕ → Encapsulated
+made_for client server = encapsulated (client_keys client).encapsulation_key (expanded server HybridServer 0)
+
+-- the client decrypts the message that the server has encapsulated
+abbrev pub Decrypts : List ℕ → List ℕ → Type 0
+Decrypts client server = decrypted (pke_keys (expanded client HybridClient 0)).decryption_key (made_for client server).ciphertext ≡ expanded server HybridServer 0
+
+-- each scalar times the other's point is one point
+abbrev pub Meets : List ℕ → List ℕ → Type 0
+Meets client server =
+    x25519 (expanded client HybridClient 2) (x25519 (expanded server HybridServer 2) base_point)
+    ≡ x25519 (expanded server HybridServer 2) (x25519 (expanded client HybridClient 2) base_point)
