@@ -64,14 +64,14 @@ typedef struct rezdolin_bytes {
  * {(const uint8_t *)string, strlen(string)}. */
 #define REZDOLIN_TEXT(text) {(const uint8_t *)("" text ""), sizeof("" text "") - 1}
 
-/* Lists of names that the library and peers in use have. The library also has the method diffie-hellman-group14-sha256. The second
- * cipher works only where both sides are strict: else the first sealed packet ends the session as F4. A server whose clients aren't
- * strict and list the second before the first lists the first alone. */
+/* Lists of names that the library and peers in use have. The library also has the method diffie-hellman-group14-sha256. Of the ciphers
+ * the last two use a MAC. */
 #define REZDOLIN_KEX "mlkem768x25519-sha256,curve25519-sha256,curve25519-sha256@libssh.org"
 #define REZDOLIN_HOST_KEY "ssh-ed25519"
-#define REZDOLIN_CIPHERS "chacha20-poly1305@openssh.com,aes256-gcm@openssh.com"
+#define REZDOLIN_CIPHERS \
+    "chacha20-poly1305@openssh.com,aes256-gcm@openssh.com,aes128-gcm@openssh.com,aes256-ctr,aes128-ctr"
 #define REZDOLIN_MACS \
-    "hmac-sha2-256-etm@openssh.com,hmac-sha2-512-etm@openssh.com,hmac-sha2-256,hmac-sha2-512,hmac-sha1"
+    "hmac-sha2-256-etm@openssh.com,hmac-sha2-512-etm@openssh.com,hmac-sha2-256,hmac-sha2-512"
 
 /* Room for each record of an endpoint. Most have some 2000 bytes: keep them in as many bytes as they have. */
 #define REZDOLIN_RECORD_ROOM 160036
@@ -100,7 +100,7 @@ enum {
     REZDOLIN_ROOM = 4,       /* a room is too small: of an endpoint `sent_len`, `record_len` and `told_len` say what `out`,
                               * `next` and `told` have to take; of the other calls `len` says it for `out` */
     REZDOLIN_PAYLOAD = 5,    /* a payload has 1 to 32768 bytes */
-    REZDOLIN_USED_UP = 6,    /* 2^31 packets went in this direction: end the connection */
+    REZDOLIN_USED_UP = 6,    /* 2^31 packets, or 2^35 bytes, went in this direction: end the connection */
     REZDOLIN_PACKET = 7,     /* what came is no packet; `fault` says why: end the connection */
     REZDOLIN_MORE = 8,       /* the packet isn't all there */
     REZDOLIN_RECORD = 9,     /* these bytes can't be read as a record of this version of the library. An endpoint that has ended has
@@ -307,13 +307,13 @@ rezdolin_bytes_answer rezdolin_public_key(const uint8_t *private_key, size_t pri
  * isn't that of its private one; 11: what fills it up is wrong. */
 rezdolin_bytes_answer rezdolin_read_identity(const uint8_t *text, size_t text_len, uint8_t *out, size_t out_len);
 
-/* Seals a payload of 1 to 32768 bytes. `state` is REZDOLIN_OUTGOING of a session's record, and its numbers are raised in place: never
+/* Seals a payload of 1 to 32768 bytes. `state` is REZDOLIN_OUTGOING of a session's record, and is made that of the next packet: never
  * seal by a copy of it, too. `padding_seed` has 32 bytes drawn for this session alone, not those of the side. */
 rezdolin_bytes_answer rezdolin_seal(uint8_t *state, size_t state_len, const uint8_t *padding_seed, size_t padding_seed_len,
                                     const uint8_t *payload, size_t payload_len, uint8_t *out, size_t out_len);
 
 /* Opens the packet at the front of what was received and not used: first what the endpoint didn't use, then what
- * comes. `state` is REZDOLIN_INCOMING of a session's record, and its numbers are raised in place; `out` gets the payload. Go on
+ * comes. `state` is REZDOLIN_INCOMING of a session's record, and is made that of the next packet; `out` gets the payload. Go on
  * after `used` bytes. With REZDOLIN_MORE read on and hand in all from the packet's first byte again. */
 rezdolin_bytes_answer rezdolin_open(uint8_t *state, size_t state_len, const uint8_t *received, size_t received_len, uint8_t *out,
                                     size_t out_len);

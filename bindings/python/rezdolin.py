@@ -18,9 +18,9 @@ import os
 import struct
 
 KEX = 'mlkem768x25519-sha256,curve25519-sha256,curve25519-sha256@libssh.org'
-# (the second works only where both sides are strict)
-CIPHERS = 'chacha20-poly1305@openssh.com,aes256-gcm@openssh.com'
-MACS = 'hmac-sha2-256-etm@openssh.com,hmac-sha2-512-etm@openssh.com,hmac-sha2-256,hmac-sha2-512,hmac-sha1'
+# (the last two use a MAC)
+CIPHERS = 'chacha20-poly1305@openssh.com,aes256-gcm@openssh.com,aes128-gcm@openssh.com,aes256-ctr,aes128-ctr'
+MACS = 'hmac-sha2-256-etm@openssh.com,hmac-sha2-512-etm@openssh.com,hmac-sha2-256,hmac-sha2-512'
 HOST_KEY, SERVICE = b'ssh-ed25519', b'ssh-connection'
 ANSWERED, MEMORY, CONFIG, UNREADABLE, ROOM, PAYLOAD, USED_UP, PACKET, MORE, RECORD, PARTS, UNASKED, IDENTITY = range(13)
 OPEN, AUTHENTICATED, FAILED, CLOSED, DISCONNECTED, ASKS = range(6)

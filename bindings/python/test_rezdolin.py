@@ -198,7 +198,7 @@ class Memory(unittest.TestCase):
                     endpoint.begin()
                 self.assertEqual((refused.exception.status, refused.exception.number), (rezdolin.CONFIG, 14))
         with self.assertRaises(Refused) as refused:
-            Client('al', [], [], ciphers='aes128-ctr').begin()
+            Client('al', [], [], ciphers='aes192-ctr').begin()
         self.assertEqual((refused.exception.status, refused.exception.number), (rezdolin.CONFIG, 13))
         for user, proof in (('al', Password(b'')), ('al', Key(b'')), ('', Password(b'secret')), ('', Nothing())):
             with self.assertRaises(Refused) as refused:

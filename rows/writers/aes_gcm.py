@@ -1,258 +1,195 @@
-"""Calls and packets of aes256-gcm@openssh.com (RFC 5647 as OpenSSH PROTOCOL section 1.6 has it), worked out here from FIPS 197, byte by byte,
-and from NIST SP 800-38D, by its algorithm 1."""
+"""Calls and packets of aes128-gcm@openssh.com and aes256-gcm@openssh.com (RFC 5647 as OpenSSH PROTOCOL section 1.6 has them), whose nonce is the vector
+alone: its last 8 bytes count the packets, and the packet's number means nothing. ciphers.py works them out."""
 import random
 
 import deployed
-from lab import feed, hexa, sha, u32
+from ciphers import *
+from lab import feed, u32
 
-CIPHER = "aes256-gcm@openssh.com"
-R = 0xe1 << 120
-ROUNDS = 14
-
-
-# AES-256 (FIPS 197). A state is 16 bytes, column by column.
-
-def doubled(b):
-    return b << 1 ^ (0x11b if b & 0x80 else 0)
-
-
-def product(a, b):
-    total = 0
-    while a:
-        if a & 1:
-            total ^= b
-        a, b = a >> 1, doubled(b)
-    return total
-
-
-def substituted(b):
-    """Section 5.1.1: the inverse, and the affine map bit by bit."""
-    inverse = next((c for c in range(256) if product(b, c) == 1), 0)
-    bit = lambda i: inverse >> i % 8 & 1
-    return sum((bit(i) ^ bit(i + 4) ^ bit(i + 5) ^ bit(i + 6) ^ bit(i + 7) ^ 0x63 >> i & 1) << i for i in range(8))
+NUMBERS = (0, 1, 7, 2 ** 31 - 1, 2 ** 31, 2 ** 32 - 1)
+# the plain text of the specification of GCM that SP 800-38D cites, its vector, and its additional data
+CLEAR = bytes.fromhex("d9313225f88406e5a55909c5aff5269a86a7a9531534f7da2e4c303d8a318a721c3c0c95956809532fcf0e2449a6b525b16aedf5aa0de657ba637b391aafd255")
+VECTOR, ADDITIONAL = bytes.fromhex("cafebabefacedbaddecaf888"), bytes.fromhex("feedfacedeadbeeffeedfacedeadbeefabaddad2")
+# of each cipher: AES of the bytes 00 11 .. ff by the key 00 01 .. (FIPS 197 appendix C.1, C.3); the tag of nothing, and of 16 zeros the sealed bytes
+# and the tag, by zeros (cases 1 and 2, 13 and 14); and of the plain text the sealed bytes, their tag, and that of 60 of them (cases 3 and 4, 15 and 16)
+STANDARDS = {
+    "aes128-gcm@openssh.com": (
+        "69c4e0d86a7b0430d8cdb78070b4c55a", "58e2fccefa7e3061367f1d57a4e7455a", "0388dace60b6a392f328c2b971b2fe78", "ab6e47d42cec13bdf53a67b21257bddf",
+        "42831ec2217774244b7221b784d0d49ce3aa212f2c02a4e035c17e2329aca12e21d514b25466931c7d8f6a5aac84aa051ba30b396a0aac973d58e091473f5985",
+        "4d5c2af327cd64a62cf35abd2ba6fab4", "5bc94fbc3221a5db94fae95ae7121a47"),
+    "aes256-gcm@openssh.com": (
+        "8ea2b7ca516745bfeafc49904b496089", "530f8afbc74536b9a963b4f1c4cb738b", "cea7403d4d606b6e074ec5d3baf39d18", "d0d1c8a799996bf0265b98b5d48ab919",
+        "522dc1f099567d07f47f37a32a84427d643a8cdcbfe5c0c97598a2bd2555d1aa8cb08e48590dbb3da7b08b1056828838c5f61e6393ba7a0abcc9f662898015ad",
+        "b094dac5d93471bdec1a502270e3cc6c", "76fc6ece0f4e1768cddf8853bb2d551b"),
+}
 
 
-S_BOX = [substituted(b) for b in range(256)]
-TWICE = [doubled(b) for b in range(256)]
-
-
-def round_keys(key):
-    """Section 5.2: 60 words."""
-    words, constant = [key[i:i + 4] for i in range(0, 32, 4)], 1
-    for i in range(8, 4 * (ROUNDS + 1)):
-        word = words[-1]
-        if i % 8 == 0:
-            word = bytes(S_BOX[b] for b in word[1:] + word[:1])
-            word, constant = bytes([word[0] ^ constant]) + word[1:], doubled(constant)
-        elif i % 8 == 4:
-            word = bytes(S_BOX[b] for b in word)
-        words.append(bytes(x ^ y for x, y in zip(words[i - 8], word)))
-    return [b"".join(words[i:i + 4]) for i in range(0, len(words), 4)]
-
-
-def mixed_column(a):
-    """Section 5.1.3."""
-    return [TWICE[a[i]] ^ TWICE[a[(i + 1) % 4]] ^ a[(i + 1) % 4] ^ a[(i + 2) % 4] ^ a[(i + 3) % 4] for i in range(4)]
-
-
-def aes(keys, block):
-    state = bytes(x ^ y for x, y in zip(block, keys[0]))
-    for i in range(1, ROUNDS + 1):
-        state = [S_BOX[state[(place + 4 * (place % 4)) % 16]] for place in range(16)]
-        if i < ROUNDS:
-            state = sum((mixed_column(state[c:c + 4]) for c in range(0, 16, 4)), [])
-        state = bytes(x ^ y for x, y in zip(state, keys[i]))
-    return state
-
-
-# GCM (SP 800-38D).
-
-def times(x, y):
-    """Algorithm 1: bit 0 of a block is its highest."""
-    z, v = 0, y
-    for i in range(128):
-        if x >> 127 - i & 1:
-            z ^= v
-        v = v >> 1 ^ (R if v & 1 else 0)
-    return z
-
-
-def ghash(h, data):
-    total = 0
-    for i in range(0, len(data), 16):
-        total = times(total ^ int.from_bytes(data[i:i + 16], "big"), h)
-    return total.to_bytes(16, "big")
-
-
-def filled(data):
-    return data + bytes(-len(data) % 16)
-
-
-def gcm(key, nonce, clear, additional):
-    """Section 7.1, with a nonce of 12 bytes: the sealed bytes, and the tag."""
-    keys = round_keys(key)
-    stream = b"".join(aes(keys, nonce + u32(2 + i)) for i in range((len(clear) + 15) // 16))
-    sealed = deployed.mixed(clear, stream)
-    lens = (8 * len(additional)).to_bytes(8, "big") + (8 * len(sealed)).to_bytes(8, "big")
-    tag = ghash(int.from_bytes(aes(keys, bytes(16)), "big"), filled(additional) + filled(sealed) + lens)
-    return sealed, deployed.mixed(tag, aes(keys, nonce + u32(1)))
-
-
-def nonce(iv, seq):
-    """RFC 5647 section 7.1: 4 bytes that stay, and 8 that count the packets."""
-    return iv[:4] + ((int.from_bytes(iv[4:12], "big") + seq) % 2 ** 64).to_bytes(8, "big")
-
-
-def fitted(key, n):
-    """A key of another length than the cipher's: cut, or filled up with zeros."""
-    return (key + bytes(n))[:n]
-
-
-def seal(iv, enc, seq, packet):
-    sealed, tag = gcm(fitted(enc, 32), nonce(fitted(iv, 12), seq), packet[4:], packet[:4])
-    return packet[:4] + sealed + tag
-
-
-def packet_of(iv, enc, seq, payload, seed):
-    """A sealed packet: packet_length isn't counted in the multiple of 16 (RFC 5647 section 7.2)."""
-    p = 4 + -(1 + len(payload) + 4) % 16
-    clear = u32(1 + len(payload) + p) + bytes([p]) + payload + deployed.chacha20(sha(seed), seq, 0, p)
-    return seal(iv, enc, seq, clear)
-
-
-def standards():
-    """FIPS 197 appendix C.3, and cases 13 to 16 of the specification of GCM that SP 800-38D cites."""
-    key, zeros = bytes.fromhex("feffe9928665731c6d6a8f9467308308" * 2), bytes(32)
-    clear = bytes.fromhex("d9313225f88406e5a55909c5aff5269a86a7a9531534f7da2e4c303d8a318a721c3c0c95956809532fcf0e2449a6b525b16aedf5aa0de657ba637b391aafd255")
-    sealed = bytes.fromhex("522dc1f099567d07f47f37a32a84427d643a8cdcbfe5c0c97598a2bd2555d1aa8cb08e48590dbb3da7b08b1056828838c5f61e6393ba7a0abcc9f662898015ad")
-    iv, additional = bytes.fromhex("cafebabefacedbaddecaf888"), bytes.fromhex("feedfacedeadbeeffeedfacedeadbeefabaddad2")
-    assert aes(round_keys(bytes(range(32))), bytes.fromhex("00112233445566778899aabbccddeeff")).hex() == "8ea2b7ca516745bfeafc49904b496089"
-    assert gcm(zeros, bytes(12), b"", b"")[1].hex() == "530f8afbc74536b9a963b4f1c4cb738b"
-    found, tag = gcm(zeros, bytes(12), bytes(16), b"")
-    assert (found.hex(), tag.hex()) == ("cea7403d4d606b6e074ec5d3baf39d18", "d0d1c8a799996bf0265b98b5d48ab919")
-    found, tag = gcm(key, iv, clear, b"")
-    assert (found, tag.hex()) == (sealed, "b094dac5d93471bdec1a502270e3cc6c")
-    found, tag = gcm(key, iv, clear[:60], additional)
-    assert (found, tag.hex()) == (sealed[:60], "76fc6ece0f4e1768cddf8853bb2d551b")
-    return [(bytes(12), zeros, bytes(16), bytes.fromhex("cea7403d4d606b6e074ec5d3baf39d18")), (iv, key, clear, sealed), (iv, key, clear[:60], sealed[:60])]
+def standards(cipher):
+    """What of the vectors of FIPS 197 and of GCM a packet can have: a vector, a key, what is clear after the length, and the sealed bytes."""
+    n, of_aes, of_none, sealed, of_zeros, longer, of_all = GCM[cipher], *STANDARDS[cipher][:6]
+    zeros, key = bytes(n), bytes.fromhex("feffe9928665731c6d6a8f9467308308" * (n // 16))
+    assert aes(round_keys(bytes(range(n))), bytes(0x11 * i for i in range(16))).hex() == of_aes
+    assert gcm(zeros, bytes(12), b"", b"")[1].hex() == of_none
+    assert [x.hex() for x in gcm(zeros, bytes(12), bytes(16), b"")] == [sealed, of_zeros]
+    assert [x.hex() for x in gcm(key, VECTOR, CLEAR, b"")] == [longer, of_all]
+    assert [x.hex() for x in gcm(key, VECTOR, CLEAR[:60], ADDITIONAL)] == [longer[:120], STANDARDS[cipher][6]]
+    return [(bytes(12), zeros, bytes(16), sealed), (VECTOR, key, CLEAR, longer), (VECTOR, key, CLEAR[:60], longer[:120])]
 
 
 # Rows.
 
 class Calls(deployed.Calls):
-    def __init__(self, file):
+    def __init__(self, file, cipher):
         super().__init__(file)
-        self.draw = random.Random(38)
+        self.draw, self.cipher, self.short = random.Random(38 + GCM[cipher]), cipher, cipher[:6]
 
-    def keys(self):
-        return self.bytes(12), self.bytes(32)
+    def keys(self, iv=None):
+        return Keys(self.cipher, "m", self.bytes(12) if iv is None else iv, self.bytes(GCM[self.cipher]), b"")
+
+    def row(self, name, *lines):
+        super().row("%s, %s" % (self.short, name), *lines)
 
 
-def line(word, iv, enc, seq, one, other, cipher=CIPHER):
-    return "%s %s m %s %s - %d %s %s" % (word, cipher, hexa(iv), hexa(enc), seq, hexa(one), other if isinstance(other, str) else hexa(other))
-
-
-def both_lines(iv, enc, seq, packet):
-    sealed = seal(iv, enc, seq, packet)
-    return line("seal", iv, enc, seq, packet, sealed), line("unseal", iv, enc, seq, sealed, packet)
+def of_key(keys, enc):
+    return Keys(keys.cipher, keys.mac, keys.iv, enc, keys.mac_key)
 
 
 def seals(calls):
-    for iv, enc, clear, sealed in standards():
-        packet = u32(len(clear)) + clear
-        assert seal(iv, enc, 0, packet)[4:-16] == sealed
-        calls.row("packet of the specification", *both_lines(iv, enc, 0, packet))
-    numbers = (0, 1, 7, 2 ** 31 - 1, 2 ** 31, 2 ** 32 - 1)
+    for iv, enc, clear, sealed in standards(calls.cipher):
+        keys, packet = Keys(calls.cipher, "m", iv, enc, b""), u32(len(clear)) + clear
+        assert seal(keys, 0, packet)[4:-16].hex() == sealed
+        calls.row("packet of the specification", *both_lines(keys, 0, packet))
     for n in list(range(4, 60)) + [255, 256, 1000]:
-        (iv, enc), seq, packet = calls.keys(), calls.draw.choice(numbers), calls.bytes(n)
-        sealed = seal(iv, enc, seq, packet)
-        calls.row("packet of %d" % n, *both_lines(iv, enc, seq, packet))
-        calls.row("packet of %d, its tag off by a bit" % n, line("unseal", iv, enc, seq, calls.flipped(sealed, n), "none"))
-        calls.row("packet of %d, a bit flipped" % n, line("unseal", iv, enc, seq, calls.flipped(sealed[:n]) + sealed[n:], "none"))
-        calls.row("packet of %d, its length off by a bit" % n, line("unseal", iv, enc, seq, calls.flipped(sealed[:4]) + sealed[4:], "none"))
-        calls.row("packet of %d by another number" % n, line("unseal", iv, enc, (seq + 1) % 2 ** 32, sealed, "none"))
+        keys, seq, packet = calls.keys(), calls.draw.choice(NUMBERS), calls.bytes(n)
+        sealed = seal(keys, seq, packet)
+        calls.row("packet of %d" % n, *both_lines(keys, seq, packet))
+        calls.row("packet of %d, its tag off by a bit" % n, seal_line("unseal", keys, seq, calls.flipped(sealed, n), "none"))
+        calls.row("packet of %d, a bit flipped" % n, seal_line("unseal", keys, seq, calls.flipped(sealed[:n]) + sealed[n:], "none"))
+        calls.row("packet of %d, its length off by a bit" % n, seal_line("unseal", keys, seq, calls.flipped(sealed[:4]) + sealed[4:], "none"))
+        calls.row("packet of %d by the next vector" % n, seal_line("unseal", advanced(keys, n + 16), seq, sealed, "none"))
+    for n in (4, 20, 36, 100):
+        keys, packet = calls.keys(), calls.bytes(n)
+        calls.row("packet of %d by every number" % n, [both_lines(keys, seq, packet) for seq in NUMBERS])
+        assert len({seal(keys, seq, packet) for seq in NUMBERS}) == 1
     for n in range(4):
-        iv, enc = calls.keys()
-        calls.row("nothing is sealed of %d" % n, line("seal", iv, enc, 3, calls.bytes(n), b""))
+        calls.row("nothing is sealed of %d" % n, seal_line("seal", calls.keys(), 3, calls.bytes(n), b""))
     for n in range(20):
-        iv, enc = calls.keys()
-        calls.row("too short to be sealed, %d" % n, line("unseal", iv, enc, 3, calls.bytes(n), "none"))
+        calls.row("too short to be sealed, %d" % n, seal_line("unseal", calls.keys(), 3, calls.bytes(n), "none"))
+    for mac in MACS:
+        keys, packet = calls.keys(), calls.bytes(24)
+        beside = Keys(keys.cipher, mac, keys.iv, keys.enc, calls.bytes(32))
+        assert seal(beside, 3, packet) == seal(keys, 3, packet)
+        calls.row("a MAC beside, %s" % mac, *both_lines(beside, 3, packet))
 
 
 def each(calls):
-    (iv, enc), packet = calls.keys(), calls.bytes(40)
-    sealed = seal(iv, enc, 5, packet)
-    for bit in range(8 * 56):
+    keys, packet, longest = calls.keys(), calls.bytes(40), GCM[calls.cipher] == 32
+    sealed = seal(keys, 5, packet)
+    for bit in range(8 * 56) if longest else range(0, 8 * 56, 5):
         changed = sealed[:bit // 8] + bytes([sealed[bit // 8] ^ 1 << bit % 8]) + sealed[bit // 8 + 1:]
-        calls.row("each bit of a sealed packet", line("unseal", iv, enc, 5, changed, "none"))
-    for place in range(32):
-        other = enc[:place] + bytes([enc[place] ^ 1]) + enc[place + 1:]
-        calls.row("each byte of the key", *both_lines(iv, other, 5, packet))
+        calls.row("bit %d of a sealed packet" % bit, seal_line("unseal", keys, 5, changed, "none"))
+    for place in range(len(keys.enc)):
+        calls.row("each byte of the key", *both_lines(of_key(keys, keys.enc[:place] + bytes([keys.enc[place] ^ 1]) + keys.enc[place + 1:]), 5, packet))
     for place in range(12):
-        other = iv[:place] + bytes([iv[place] ^ 1]) + iv[place + 1:]
-        calls.row("each byte of the iv", *both_lines(other, enc, 5, packet))
-    for bit in range(256):
-        calls.row("each bit of a key", *both_lines(bytes(12), (1 << bit).to_bytes(32, "big"), 0, bytes(20)))
+        calls.row("each byte of the iv", *both_lines(with_iv(keys, keys.iv[:place] + bytes([keys.iv[place] ^ 1]) + keys.iv[place + 1:]), 5, packet))
+    none = Keys(calls.cipher, "m", bytes(12), bytes(len(keys.enc)), b"")
+    for bit in range(8 * len(keys.enc)):
+        calls.row("each bit of a key", both_lines(of_key(none, (1 << bit).to_bytes(len(keys.enc), "big")), 0, bytes(20))[0])
     for bit in range(96):
-        calls.row("each bit of an iv", *both_lines((1 << bit).to_bytes(12, "big"), bytes(32), 0, bytes(20)))
-    for b in range(256):
-        calls.row("each byte in all places", *both_lines(bytes([b]) * 12, bytes([b]) * 32, 0, bytes([b]) * 52))
+        calls.row("each bit of an iv", both_lines(with_iv(none, (1 << bit).to_bytes(12, "big")), 0, bytes(20))[0])
+    for b in range(256) if longest else range(0, 256, 5):
+        calls.row("each byte in all places", both_lines(of_key(with_iv(none, bytes([b]) * 12), bytes([b]) * len(keys.enc)), 0, bytes([b]) * 20)[b % 2])
 
 
-def counted(calls):
-    """The 8 bytes that count wrap, and never change the 4 before them."""
-    enc, packet = calls.bytes(32), calls.bytes(36)
-    for last in (2 ** 64 - 1, 2 ** 64 - 2, 2 ** 64 - 2 ** 32, 2 ** 63, 2 ** 32 - 1, 255, 0):
-        for seq in (0, 1, 2, 255, 256, 65536, 2 ** 31, 2 ** 32 - 1):
-            calls.row("count from %d" % last, *both_lines(b"\xff\xfe\x00\xff" + last.to_bytes(8, "big"), enc, seq, packet))
+def counted_on(file, calls):
+    """The 8 bytes that count go on by one for each packet, and wrap; the 4 before them stay."""
+    payloads = [b"\x05", b"seven b", b"\x07" * 100, b"a", bytes(range(256)), b"last"]
+    for place, last in enumerate((0, 255, 2 ** 16 - 2, 2 ** 32 - 1, 2 ** 32 - 3, 2 ** 63 - 2, 2 ** 64 - 2 ** 32 - 1, 2 ** 64 - 3, 2 ** 64 - 2, 2 ** 64 - 1)):
+        keys, number = calls.keys(b"\xff\xfe\x00\xff" + last.to_bytes(8, "big")), 3 * (place % 2)
+        in_a_row(file, "%s, packets that count from %d, number %d" % (calls.short, last, number), keys, payloads, number, (1, 7) if last in (0, 2 ** 64 - 3) else ())
+    for fixed in (b"\xff" * 4, bytes(4)):
+        in_a_row(file, "%s, packets that wrap behind %s" % (calls.short, fixed.hex()), calls.keys(fixed + b"\xff" * 8), payloads[:3])
+    for number in (0, 3):
+        out_of_order(file, "%s, packets in another order, number %d" % (calls.short, number), calls.keys(), number)
+        out_of_order(file, "%s, packets in another order that wrap, number %d" % (calls.short, number), calls.keys(bytes(4) + b"\xff" * 8), number)
 
 
-def other_keys(calls):
-    """Keys of other lengths, and other names: of these each is chacha20-poly1305@openssh.com."""
-    packet = calls.bytes(24)
+def other_keys(file, calls):
+    """Keys of other lengths: a vector of these stays as it is."""
+    packet, size = calls.bytes(24), GCM[calls.cipher]
     for n in (0, 1, 3, 4, 11, 13, 16, 40):
-        calls.row("iv of %d" % n, *both_lines(calls.bytes(n), calls.bytes(32), 9, packet))
-    for n in (0, 1, 16, 31, 33, 64, 70):
-        calls.row("key of %d" % n, *both_lines(calls.bytes(12), calls.bytes(n), 9, packet))
-    for name in ("aes256-gcm@openssh.co", "aes256-gcm@openssh.comm", "AES256-GCM@openssh.com", "aes256-gcm", "aes128-gcm@openssh.com", "none"):
-        iv, enc = calls.bytes(12), calls.bytes(64)
-        calls.row("another name", line("seal", iv, enc, 9, packet, deployed.seal(enc, 9, packet), name))
+        keys = calls.keys(calls.bytes(n))
+        calls.row("iv of %d" % n, *both_lines(keys, 9, packet))
+        in_a_row(file, "%s, packets by an iv of %d" % (calls.short, n), keys, [b"one", b"two"])
+        assert next_iv(keys, 52) == keys.iv
+    for n in sorted({0, 1, 15, size - 1, size + 1, 64, 70}):
+        calls.row("key of %d" % n, *both_lines(of_key(calls.keys(), calls.bytes(n)), 9, packet))
+
+
+def other_names(file):
+    """Names that are near: each is chacha20-poly1305@openssh.com, whose vector stays."""
+    calls = Calls(file, "aes256-gcm@openssh.com")
+    for name in ("aes256-gcm@openssh.co", "aes256-gcm@openssh.comm", "AES256-GCM@openssh.com", "aes256-gcm", "aes128-gcm", "aes128-gcm@openssh.co", "aes192-gcm@openssh.com",
+                 "aes128-gcm@openssh.comm", "Aes128-gcm@openssh.com", "aead_aes_128_gcm", "none"):
+        keys, packet = Keys(name, "m", calls.bytes(12), calls.bytes(64), b""), calls.bytes(24)
+        assert seal(keys, 9, packet) == deployed.seal(keys.enc, 9, packet)
+        calls.row("another name, %s" % name, seal_line("seal", keys, 9, packet, seal(keys, 9, packet)))
+        in_a_row(file, "packets by another name, %s" % name, keys, [b"one", b"two"])
 
 
 def packets(file, calls):
     """Payloads as packets of the cipher, written and read again."""
-    for n in list(range(1, 201)) + [255, 256, 1000]:
-        (iv, enc), payload, seed = calls.keys(), calls.bytes(n), calls.bytes(8)
-        keys = "%s m %s %s -" % (CIPHER, hexa(iv), hexa(enc))
-        first, second = packet_of(iv, enc, 0, payload, seed), packet_of(iv, enc, 1, payload, seed)
-        file.row("payload of %d" % n, "packets deployed", "keys yes " + keys, "sealed %s 0 %s %s %s" % (keys, hexa(seed), hexa(payload), hexa(first)),
-                 "sealed %s 1 %s %s %s" % (keys, hexa(seed), hexa(payload), hexa(second)), feed(first[:-1]), "came -", feed(first[-1:], second),
-                 "came +%s +%s" % (hexa(payload), hexa(payload)), "held 0", "end open")
-        file.row("payload of %d, its number twice" % n, "packets deployed", "keys yes " + keys, feed(first), "came +%s" % hexa(payload),
-                 feed(first), "end refused P4", "held 0")
-        file.row("payload of %d, its number not from 0" % n, "packets deployed", "keys no " + keys, feed(second), "end refused P4", "held 0")
-    (iv, enc), payload, seed = calls.keys(), b"\x07" * 32768, b"seed"
-    keys = "%s m %s %s -" % (CIPHER, hexa(iv), hexa(enc))
-    data = packet_of(iv, enc, 0, payload, seed)
-    file.row("payload of 32768", "packets deployed", "keys yes " + keys, "sealed %s 0 %s %s %s" % (keys, hexa(seed), hexa(payload), hexa(data)),
-             feed(data), "came +" + hexa(payload), "held 0", "end open")
-    lengths(file, keys)
+    for n in list(range(1, 34)) + [63, 64, 65, 100, 255, 1000]:
+        keys, payload = calls.keys(), calls.bytes(n)
+        first, second = packets_of(keys, [payload, payload], SEED)[0]
+        one, text = file.short(first), file.short(payload)
+        file.row("%s, payload of %d" % (calls.short, n), begins(keys), written("sealed", keys, 0, text, one), written("next", keys, 0, text, one, next_iv(keys, len(first))),
+                 feed(cut(one, 0, len(first) - 1)), "came -", "held %d" % (len(first) - 1), feed(cut(one, len(first) - 1), second), came([text] * 2), "held 0", "end open")
+    for n in (1, 30):
+        # the number isn't what a packet is judged by
+        keys, payload = calls.keys(), calls.bytes(n)
+        file.row("%s, payload of %d, sealed with another number" % (calls.short, n), begins(keys), judged(keys, 0, packet_of(keys, 7, payload, SEED)))
+        file.row("%s, payload of %d, sealed at number 0 and read at number 2" % (calls.short, n), begins(keys, 2), judged(keys, 2, packet_of(keys, 0, payload, SEED)))
+    keys, payload = calls.keys(), b"\x07" * 32768
+    data = packet_of(keys, 0, payload, SEED)
+    file.row("%s, payload of 32768" % calls.short, "packets deployed", "keys yes " + words(keys), feed(data), "came 00008000 32768*07", "held 0", "end open")
+    lengths(file, calls, keys)
 
 
-def lengths(file, keys):
+def lengths(file, calls, keys):
     """packet_length is a multiple of 16, and 4 + n and the tag have at most 35000 bytes."""
     longest = (35000 - 20) // 16 * 16
     for n in (16, 32, longest):
-        file.row("length %d" % n, "packets deployed", "keys yes " + keys, feed(u32(n)), "held 4", "end open")
+        file.row("%s, length %d" % (calls.short, n), begins(keys), "feed " + u32(n).hex(), "held 4", "end open")
     for n in (0, 1, 8, 12, 15, 17, 24, 31, longest - 8, longest + 1, longest + 16, 2 ** 31, 2 ** 32 - 1):
-        file.row("refused length %d" % n, "packets deployed", "keys yes " + keys, feed(u32(n)[:3]), "end open", "part 1 %s" % u32(n)[3:].hex(),
-                 "end refused P1", "held 0")
+        file.row("%s, refused length %d" % (calls.short, n), begins(keys), "feed " + u32(n)[:3].hex(), "end open", "part 1 %s" % u32(n)[3:].hex(), "end refused P1",
+                 "held 0")
 
 
 def rows(file):
-    calls = Calls(file)
-    seals(calls)
-    each(calls)
-    counted(calls)
-    other_keys(calls)
-    packets(file, calls)
+    for cipher in GCM:
+        calls = Calls(file, cipher)
+        seals(calls)
+        each(calls)
+        counted_on(file, calls)
+        other_keys(file, calls)
+        packets(file, calls)
+    other_names(file)
+
+
+def wrong_going(file):
+    """What a nonce that is made otherwise would read and write."""
+    for cipher in GCM:
+        calls = Calls(file, cipher)
+        keys, payloads = calls.keys(b"\x01\x02\x03\x04" + b"\xff" * 8), [b"payload", b"next"]
+        number = lambda iv: int.from_bytes(iv, "big")
+        ways = {"not at all": lambda k, n: k, "twice": lambda k, n: advanced(advanced(k, n), n),
+                "into the bytes that stay": lambda k, n: with_iv(k, (number(k.iv) + 1).to_bytes(12, "big")),
+                "in its last four bytes": lambda k, n: with_iv(k, k.iv[:8] + ((number(k.iv[8:]) + 1) % 2 ** 32).to_bytes(4, "big")),
+                "by blocks": lambda k, n: with_iv(k, k.iv[:4] + ((number(k.iv[4:]) + (n - 20) // 16) % 2 ** 64 + 1).to_bytes(8, "big"))}
+        wrong_ways(file, calls.short + "-gcm", keys, payloads, ways)
+        packets_, _ = packets_of(advanced(keys, 0), payloads, SEED)
+        file.row("%s-gcm goes on before the tag is judged" % calls.short, begins(keys), feed(*packets_), came(payloads), "end open")
+        second = packet_of(advanced(keys, 0), 0, b"payload", SEED)
+        file.row("the number counts in %s-gcm" % calls.short, "packets deployed", written("sealed", keys, 1, b"payload", second))
+        file.row("%s-gcm is another cipher" % calls.short, "packets deployed", written("sealed", keys, 0, b"payload", packet_of(Keys("c", "m", b"", keys.enc, b""), 0, b"payload", SEED)))

@@ -1,12 +1,11 @@
 """The record of a paused endpoint: what stands in it, as bytes, and which bytes are the record of an endpoint with a config and a suite."""
-import functools
 
 from lab import *
-import deployed
+import ciphers
 from receiver import fields_of
 from requests import is_name
 
-VERSION = 2
+VERSION = 3
 PHASES = ("kexinit", "exchange", "newkeys", "service", "auth")
 MPINT, OCTETS, HYBRID = range(3)
 LINE_LIMIT, PACKET_LIMIT, DIGEST_LIMIT, BLOB_LIMIT, TRIES_LIMIT = 255, 35000, 64, 8192, 20
@@ -154,7 +153,13 @@ class Text:
 class Lab:
     """What the lab suite answers."""
 
-    TAG, COUNTED = 32, 4
+    @staticmethod
+    def tag_len(keys):
+        return 32
+
+    @staticmethod
+    def counted(keys):
+        return 4
 
     @staticmethod
     def form(kex):
@@ -200,22 +205,15 @@ class Elsewhere(Lab):
 class Deployed:
     """What the suite of deployed algorithms answers of what no key exchange is about."""
 
-    TAG, COUNTED = 16, 0
+    tag_len, counted, block = map(staticmethod, (ciphers.tag_len, ciphers.counted, ciphers.block))
 
     @staticmethod
     def form(kex):
         return MPINT if kex == "diffie-hellman-group14-sha256" else OCTETS
 
     @staticmethod
-    def block(cipher):
-        return 16 if cipher == "aes256-gcm@openssh.com" else 8
-
-    @staticmethod
-    @functools.lru_cache(maxsize=None)
     def head(keys, number, first):
-        if keys.cipher == "aes256-gcm@openssh.com":
-            return first
-        return xor(first, deployed.chacha20(keys.enc[32:64], number, 0, 4))
+        return u32(ciphers.head(keys, number, first))
 
 
 class Party:
@@ -265,14 +263,14 @@ def whole_len(suite, keys, number, held):
     if len(held) < 4:
         return 4
     first = suite.head(keys, number, held[:4]) if keys else held[:4]
-    return 4 + int.from_bytes(first, "big") + (suite.TAG if keys else 0)
+    return 4 + int.from_bytes(first, "big") + (suite.tag_len(keys) if keys else 0)
 
 
 def is_unfinished(suite, keys, number, held):
     """Whether the bytes are the first of a packet whose length is taken, and not all of it."""
     if len(held) < 4:
         return True
-    tag, block, counted = (suite.TAG, suite.block(keys.cipher), suite.COUNTED) if keys else (0, 8, 4)
+    tag, block, counted = (suite.tag_len(keys), suite.block(keys.cipher), suite.counted(keys)) if keys else (0, 8, 4)
     whole = whole_len(suite, keys, number, held)
     n = whole - 4 - tag
     return n >= 8 + counted and (n + counted) % block == 0 and whole <= PACKET_LIMIT and len(held) < whole

@@ -48,7 +48,7 @@ class Receiver:
     """One of the lab's ends: a client with the attempt `none`, or a server that grants it. It receives a stream up to its end, or as far
     as that goes. What is the lab suite's own is a method each, for another suite."""
 
-    FORMS, TAG, INIT, BLOB = FORMS, 32, INIT, BLOB
+    FORMS, TAG, INIT, BLOB, REQUEST = FORMS, 32, INIT, BLOB, by_none()
     half = Half
 
     def __init__(self, role, willing, stream):
@@ -100,6 +100,9 @@ class Receiver:
         clear = xor(whole[:-32], blocks(self.keys.enc + self.keys.iv, self.number, len(whole) - 32))
         return clear if whole[-32:] == sha(self.keys.mac_key, u32(self.number), clear) else None
 
+    def go_on(self, size):
+        """Makes the keys of the next packet of those of a packet of so many bytes."""
+
     def receive_packet(self):
         """One packet (RFC 4253 section 6), and what comes of it; none where it isn't whole."""
         place, tag = self.used, self.TAG if self.keys else 0
@@ -120,6 +123,7 @@ class Receiver:
         if clear[4] < 4 or clear[4] >= n - 1:
             raise Ends("failed F3", 2)
         self.number += 1
+        self.go_on(len(whole))
         self.receive(clear[5:4 + n - clear[4]])
         return True
 
@@ -207,7 +211,7 @@ class Receiver:
 
     def after(self, payload, _):
         """After NEWKEYS a changed packet is refused by its length or its tag, so each that comes here is as it was sent."""
-        answer = {service(5, "ssh-userauth"): service(6, "ssh-userauth"), service(6, "ssh-userauth"): by_none(), by_none(): SUCCESS,
+        answer = {service(5, "ssh-userauth"): service(6, "ssh-userauth"), service(6, "ssh-userauth"): self.REQUEST, self.REQUEST: SUCCESS,
                   SUCCESS: None}[payload]
         self.phase = "auth"
         if payload[0] == 50:

@@ -5,7 +5,8 @@ import copy
 from lab import *
 import paused
 from asking import answer, host_key, of_key, of_password, user
-from deployed_sessions import CIPHER, KEY, DeployedReceiver, DeployedTalk
+from ctr_sessions import ALL, ALGORITHM, ETM, GCM, METHOD, PLAIN, CipherTalk
+from deployed_sessions import CIPHER, KEY, DeployedTalk
 from paused import Deployed, Elsewhere, Lab, Party, Record, reads, spoilt
 from requests import FAILURE, LET_IN, half
 from signatures import by_signature, input_of, to_sign
@@ -113,6 +114,7 @@ def rows(file):
     in_authentication(file)
     signing(file)
     over_deployed(file)
+    over_ctr(file)
     others(file)
     ended(file)
 
@@ -229,6 +231,55 @@ def over_deployed(file):
              answer(True), says(s.send(SUCCESS)), "end " + LET_IN)
 
 
+def over_ctr(file):
+    """Both sides over ciphers whose keys go on: the record has the vector of the next packet each way, and what is made of it goes on with that."""
+    for way in ALL:
+        for strict in (True, False):
+            if strict or way in (ALL[0], PLAIN, ETM, GCM):
+                of_ctr(file, way, strict, strict and way in (PLAIN, ETM))
+
+
+def of_ctr(file, way, strict, is_spoilt):
+    """A server that denies a password and accepts the next, and the client of it: their records after each packet, and within one."""
+    t = CipherTalk(way, strict)
+    c, s = t.c, t.s
+    denied, accepted = by_password(b"\x01"), by_password(b"\x00")
+    name = "%s, %s" % (way.short(), "strict" if strict else "loose")
+    chosen = [x.encode() for x in (METHOD, ALGORITHM, *way.names, "none", "none")]
+    number = 0 if strict else 3
+    # as both stand after their NEWKEYS
+    own = Record(SERVER, phase=2, form=paused.OCTETS, strict=strict, first=False, version=TEXT, kexinit=t.ci, session=t.hash, algorithms=chosen, own_version=TEXT,
+                 host_key=KEY, pending=t.cs, keys=t.sc, number=number, lines=None, packets=(None, 2, b""), suite=Deployed)
+    of_client = Record(CLIENT, 2, phase=2, form=paused.OCTETS, strict=strict, first=False, version=TEXT, kexinit=t.si, session=t.hash, algorithms=chosen, own_version=TEXT,
+                       host_key=KEY, pending=t.sc, lines=None, packets=(None, 2, b""), suite=Deployed)
+    lines = ["waiting server deployed", says(t.s_first), feed(t.c_first, t.c_init), says(t.s_reply, t.s_newkeys), record(own), feed(t.c_newkeys),
+             record(own.put(phase=3, pending=None, packets=(t.cs, number, b""))), feed(t.c_service), says(t.s_accept),
+             record(own.put(phase=4, keys=s.keys, number=s.seq, packets=(c.keys, c.seq, b"")))]
+    client = [["client try al ssh-connection password %02x" % b for b in (1, 0)], "waiting client deployed", says(t.c_first), feed(t.s_first), says(t.c_init), feed(t.s_reply),
+              host_key(KEY, ALGORITHM), answer(True), says(t.c_newkeys, t.c_service)]
+    service_ = CipherTalk(way, strict).c
+    client += [record(of_client.put(keys=service_.keys, number=service_.seq)), feed(t.s_newkeys), record(of_client.put(phase=3, pending=None, packets=(t.sc, number, b"")))]
+    heard = t.s_accept
+    for n, (payload, answers) in enumerate(((denied, failure()), (accepted, SUCCESS)), 1):
+        # a request, cut after its length and a byte
+        before, seq = c.keys, c.seq
+        request_ = c.send(payload)
+        lines += [feed(request_[:5]), record(own.put(packets=(before, seq, request_[:5])))]
+        if n == 2 and is_spoilt:
+            lines += judged(own, Party(SERVER, Deployed))
+        lines += [feed(request_[5:]), user(n, of_password(payload[-1:])), record(own.put(packets=(c.keys, c.seq, b""), waiting=(seq, payload)))]
+        client += [feed(heard), says(request_), record(of_client.put(phase=4, left=3 - n, keys=c.keys, number=c.seq, packets=(s.keys, s.seq, b"")))]
+        before, seq = s.keys, s.seq
+        heard = s.send(answers)
+        lines += [answer(n == 2), says(heard)]
+        if n == 1:
+            lines.append(record(own.put(waiting=None, request=2, keys=s.keys, number=s.seq)))
+            client += [feed(heard[:7]), record(of_client.put(packets=(before, seq, heard[:7])))]
+            heard = heard[7:]
+    file.row("a server over %s" % name, t.lines(SERVER), lines, "end " + LET_IN, "record none")
+    file.row("a client over %s" % name, t.lines(CLIENT), client, feed(heard), "says -", "end " + LET_IN, "record none")
+
+
 def others(file):
     """Records of other endpoints, versions and configs, and bytes that no endpoint has written."""
     t = Talk()
@@ -243,7 +294,7 @@ def others(file):
             lines += takes(r.text())
         last = seen[-1][1]
         with_ = lambda **parts: copy.deepcopy(last).put(**parts).text()
-        lines += takes(b"", u32(0), u32(1), u32(2), u32(3), b"\x00\x00\x00", u32(1) + last.text()[4:], u32(3) + last.text()[4:], u32(0) + last.text()[4:], bytes(200))
+        lines += takes(b"", u32(0), u32(1), u32(3), u32(4), b"\x00\x00\x00", u32(2) + last.text()[4:], u32(4) + last.text()[4:], u32(0) + last.text()[4:], bytes(200))
         # of the other role, and of another config
         lines += takes(*(r.text() for _, _, _, _, r in (server(t) if role == CLIENT else client(t))))
         other_ = Talk(strict=False, guess=True, crossed=True)

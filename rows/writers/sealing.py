@@ -65,6 +65,7 @@ def rows(file):
                 tags(file, suite, keys, name, start)
         after(file, suite)
         one_piece(file, suite)
+    going(file)
 
 
 def lengths(file, suite, keys, name, start):
@@ -175,3 +176,84 @@ def after(file, suite):
     file.row("packets %s, keys behind keys" % suite, "packets " + suite, "keys no " + words(keys), feed(packet_of(suite, keys, 0, b"a")),
              came(b"a"), "keys no " + words(other), feed(packet_of(suite, other, 1, b"b")), came(b"b"), "keys yes " + words(keys),
              feed(packet_of(suite, keys, 0, b"c")), came(b"c"))
+
+
+def next_iv(keys, size):
+    """Of the second suite a cipher whose name ends with go counts the bytes in the last four of a vector of 12."""
+    if not keys.cipher.endswith("go") or len(keys.iv) != 12:
+        return keys.iv
+    return keys.iv[:8] + u32((int.from_bytes(keys.iv[8:], "big") + size) % 2 ** 32)
+
+
+def going_keys(count=0, cipher="c-go", start=bytes([1]) * 8):
+    return Keys(cipher, "m", start + u32(count), ENC, MACKEY)
+
+
+def advanced(keys, size):
+    return Keys(keys.cipher, keys.mac, next_iv(keys, size), keys.enc, keys.mac_key)
+
+
+def sealed_by(keys, payloads, seq=0, step=advanced):
+    """The packets of payloads, of which each goes by the keys after the one before."""
+    packets = []
+    for n, payload in enumerate(payloads):
+        packets.append(packet_of("second", keys, seq + n, payload))
+        keys = step(keys, len(packets[-1]))
+    return packets
+
+
+def padded(keys, seq, payload, more):
+    """A packet with so many blocks of padding more than needed."""
+    clear = clear_packet("second", keys, seq, payload)
+    padding = clear[4] + 8 * more
+    return sealed_raw("second", keys, seq, u32(1 + len(payload) + padding) + bytes([padding]) + payload + blocks(SEED_TEXT, seq, padding))
+
+
+def going(file):
+    """A cipher that goes on: what is written leaves the next keys, and a reader goes on with them, whatever the padding."""
+    payloads = [b"\x05", b"seven b", b"\x07" * 100, b"a", bytes(range(256)) * 4, b"last"]
+    for count in (0, 4294967295 - 300, 4294967295):
+        keys = going_keys(count)
+        lines, packets, now = [], sealed_by(keys, payloads, 3), keys
+        for n, (payload, packet) in enumerate(zip(payloads, packets)):
+            after_it = advanced(now, len(packet))
+            lines.append("next %s %d %s %s %s %s" % (words(now), 3 + n, hexa(SEED_TEXT), hexa(payload), hexa(packet), hexa(after_it.iv)))
+            now = after_it
+        start = ["packets second"] + ["feed " + hexa(packet_of("second", None, n, b"\x15")) for n in range(3)] + [came(*[b"\x15"] * 3), "keys no " + words(keys)]
+        file.row("cipher that goes on from %d, written" % count, "packets second", *lines)
+        file.row("cipher that goes on from %d, read in one piece" % count, *start, feed(*packets), came(*payloads), "held 0", "end open")
+        each = [line for payload, packet in zip(payloads, packets) for line in (feed(packet[:5]), feed(packet[5:]), came(payload))]
+        file.row("cipher that goes on from %d, read packet by packet" % count, *start, *each, "held 0", "end open")
+    for more in (1, 2, 30):
+        keys = going_keys()
+        first = padded(keys, 0, b"payload", more)
+        second = packet_of("second", advanced(keys, len(first)), 1, b"next")
+        file.row("cipher that goes on, %d blocks of padding more" % more, "packets second", "keys yes " + words(keys), feed(first, second),
+                 came(b"payload", b"next"), "held 0", "end open")
+    for name, keys in (("c", going_keys(cipher="c")), ("c-go with a vector of 16 bytes", keys_for("c-go")), ("go with none", Keys("go", "m", b"", ENC, MACKEY)),
+                       ("go-c", going_keys(cipher="go-c"))):
+        packets = sealed_by(keys, [b"one", b"two"])
+        line = "next %s 0 %s %s %s %s" % (words(keys), hexa(SEED_TEXT), hexa(b"one"), hexa(packets[0]), hexa(keys.iv))
+        file.row("cipher %s stays as it is" % name, "packets second", line, "keys yes " + words(keys), feed(*packets), came(b"one", b"two"), "end open")
+    keys = keys_for("c-go")
+    packets = [packet_of("lab", keys, n, payload) for n, payload in enumerate((b"one", b"two"))]
+    line = "next %s 0 %s %s %s %s" % (words(keys), hexa(SEED_TEXT), hexa(b"one"), hexa(packets[0]), hexa(keys.iv))
+    file.row("no cipher of the lab suite goes on", "packets lab", line, "keys yes " + words(keys), feed(*packets), came(b"one", b"two"), "end open")
+
+
+def wrong_going(file):
+    """What a cipher that goes on otherwise would read and write."""
+    keys = going_keys()
+    payloads = [b"payload", b"next"]
+    ways = {"twice": lambda k, n: advanced(advanced(k, n), n), "not at all": lambda k, n: k, "by the length without tag": lambda k, n: advanced(k, n - 16),
+            "by the payload's length": lambda k, n: advanced(k, 7), "by packets": lambda k, n: advanced(k, 1)}
+    for way, step in ways.items():
+        packets = sealed_by(keys, payloads, step=step)
+        file.row("keys advance %s, read" % way, "packets second", "keys yes " + words(keys), feed(*packets), came(*payloads), "end open")
+        file.row("keys advance %s, written" % way, "packets second",
+                 "next %s 0 %s %s %s %s" % (words(keys), hexa(SEED_TEXT), hexa(payloads[0]), hexa(packets[0]), hexa(step(keys, len(packets[0])).iv)))
+    early = advanced(keys, len(packet_of("second", keys, 0, payloads[0])))
+    packets = sealed_by(early, payloads)
+    file.row("keys advance before the tag is judged, read", "packets second", "keys yes " + words(keys), feed(*packets), came(*payloads), "end open")
+    file.row("keys advance before a packet is written", "packets second",
+             "next %s 0 %s %s %s %s" % (words(keys), hexa(SEED_TEXT), hexa(payloads[0]), hexa(packets[0]), hexa(early.iv)))

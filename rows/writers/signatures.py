@@ -5,7 +5,7 @@ import deployed
 from lab import *
 from asking import BYE, NOTHING, answer, of_key, of_password
 from auth import direction
-from configs import over_deployed
+from configs import over_deployed, over_lab
 from deployed_sessions import CIPHER, DeployedTalk
 from disconnecting import told
 from requests import FAILURE, LET_IN, half, request
@@ -145,6 +145,7 @@ def rows(file):
     holding(file)
     suites(file)
     over_deployed(file, "by names over the deployed suite", named)
+    over_lab(file, "by names over", named)
     by_rsa(file)
 
 
@@ -372,7 +373,8 @@ def suites(file):
 
 def named(verdict):
     """What comes of a config's names, where a line `judged` says this of its names and private keys."""
-    return "named fits" if verdict.startswith("judged C14") else verdict.replace("judged", "named", 1)
+    front, by_key, _ = verdict.replace("judged", "named", 1).partition("C14")
+    return front + "fits" if by_key else front
 
 
 def by_rsa(file):

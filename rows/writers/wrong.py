@@ -1,7 +1,10 @@
 """Rows with one wrong expectation each, which a judge has to refuse: what they differ in from a right row is told by their names."""
+import aes_ctr
+import aes_gcm
 from lab import *
 from requests import half
 from paused import Party, Record, spoilt
+from sealing import wrong_going
 from signatures import KEY, by_signature, input_of, tries
 
 
@@ -30,6 +33,10 @@ def rows(file):
     linked(file, t)
     below(file, t)
     peer_lines(file, t)
+    wrong_going(file)
+    aes_gcm.wrong_going(file)
+    aes_ctr.wrong_going(file)
+    deployed_names(file)
     unjudged(file, t)
 
 
@@ -121,8 +128,13 @@ def signatures(file, t):
     file.row("the deployed suite holds a key of 31 bytes", "suite deployed", "holds ssh-ed25519 31*00 yes")
     for name, lines, verdict in (("a key that is elsewhere is refused", [], "C14: private key 0 is none of ssh-ed25519 by which the suite signs"),
                                  ("a cipher that nobody has fits", ["cipher_cs 'none"], "fits")):
-        file.row(name, "config server", "kex 'curve25519-sha256", "hostkeys 'ssh-ed25519", "cipher_cs 'aes256-gcm@openssh.com", "cipher_sc 'aes256-gcm@openssh.com", lines,
-                 "named " + verdict)
+        file.row(name, "config server", "kex 'curve25519-sha256", "hostkeys 'ssh-ed25519", "cipher_cs 'aes256-gcm@openssh.com", "cipher_sc 'aes256-gcm@openssh.com",
+                 "mac_cs 'hmac-sha2-256", "mac_sc 'hmac-sha2-256", lines, "named " + verdict)
+    for name, verdict in (("a MAC that a suite doesn't have fits", "fits"),
+                          ("a MAC stands in the other list", "C13: the suite has no none, which stands in mac_algorithms_client_to_server"),
+                          ("a MAC is told as a cipher", "C13: the suite has no none, which stands in encryption_algorithms_server_to_client")):
+        file.row(name, "config client", "mac_sc 'none", "judged lab " + verdict)
+    file.row("a MAC that a suite has doesn't fit", "config client", "mac_sc 'm", "judged lab C13: the suite has no m, which stands in mac_algorithms_server_to_client")
     file.row("a public key that is elsewhere is another", "suite elsewhere", "blob h 00 01")
 
 
@@ -153,7 +165,7 @@ def records(file, t):
     file.row("a server takes a client's record", start, "takes m " + Record(CLIENT).text().hex(), end)
     file.row("a client refuses its own record", "waiting client", says(t.c_first), "takes u " + Record(CLIENT).text().hex(), end)
     file.row("a record is another one's", start, "takes o " + text.hex(), end)
-    for version in (1, 3):
+    for version in (2, 4):
         file.row("a record of version %d is unreadable" % version, start, "takes u " + (u32(version) + text[4:]).hex(), end)
         file.row("a record of version %d is taken" % version, start, "takes m " + (u32(version) + text[4:]).hex(), end)
     file.row("three bytes are of another version", start, "takes v 000000", end)
@@ -288,6 +300,19 @@ def peer_lines(file, t):
     other = Talk(greetings=(None, minus + b"\r\n"))
     file.row("the exchange hash is that of another line", "config client", "reading deployed", "generous", feed(old + b"\n", other.s_first[len(minus) + 2:], other.s_reply),
              says(other.c_first, other.c_init, other.c_newkeys, other.c_service), asked("host_key"), "end open")
+
+
+def deployed_names(file):
+    """Which ciphers and MACs the suite of deployed algorithms has."""
+    lacks = lambda name, field: "C13: the suite has no %s, which stands in %s" % (name, field)
+    ctr, mac, etm = "aes256-ctr", "hmac-sha2-256", "hmac-sha2-512-etm@openssh.com"
+    for name, ciphers, macs, verdict in (
+            ("has hmac-sha1", (ctr, ctr), ("hmac-sha1", mac), "fits"), ("has another MAC beside a cipher without one", ("chacha20-poly1305@openssh.com",) * 2, (mac, "a"), "fits"),
+            ("has aes192-ctr", (ctr, "aes192-ctr"), (mac, mac), "fits"), ("lacks a MAC -etm", (ctr, ctr), (etm, etm), lacks(etm, "mac_algorithms_client_to_server")),
+            ("lacks aes128-ctr", ("aes128-ctr", ctr), (mac, mac), lacks("aes128-ctr", "encryption_algorithms_client_to_server")),
+            ("lacks aes128-gcm", (ctr, "aes128-gcm@openssh.com"), (mac, mac), lacks("aes128-gcm@openssh.com", "encryption_algorithms_server_to_client"))):
+        lines = ["%s '%s" % pair for pair in zip(("kex", "hostkeys", "cipher_cs", "cipher_sc", "mac_cs", "mac_sc"), ("curve25519-sha256", "ssh-ed25519", *ciphers, *macs))]
+        file.row("the suite of deployed algorithms %s" % name, "config client", lines, "named " + verdict)
 
 
 def unjudged(file, t):

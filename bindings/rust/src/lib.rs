@@ -76,14 +76,14 @@ pub struct Side {
 }
 
 impl Default for Side {
-    /// The algorithms that the library and peers in use have. The second cipher works only where both sides are strict.
+    /// The algorithms that the library and peers in use have. The last two ciphers use a MAC.
     fn default() -> Side {
         Side {
             softwareversion: "rezdolin".into(),
             kex: "mlkem768x25519-sha256,curve25519-sha256,curve25519-sha256@libssh.org".into(),
-            ciphers: "chacha20-poly1305@openssh.com,aes256-gcm@openssh.com".into(),
-            macs: "hmac-sha2-256-etm@openssh.com,hmac-sha2-512-etm@openssh.com,hmac-sha2-256,hmac-sha2-512,hmac-sha1"
+            ciphers: "chacha20-poly1305@openssh.com,aes256-gcm@openssh.com,aes128-gcm@openssh.com,aes256-ctr,aes128-ctr"
                 .into(),
+            macs: "hmac-sha2-256-etm@openssh.com,hmac-sha2-512-etm@openssh.com,hmac-sha2-256,hmac-sha2-512".into(),
             strict: true,
             reading: PeerReading::default(),
         }

@@ -12,7 +12,7 @@ pub enum LinkFault {
     Memory,
     /// A payload has 1 to 32768 bytes.
     Payload,
-    /// 2^31 packets went in this direction: end the connection.
+    /// 2^31 packets, or 2^35 bytes, went in this direction: end the connection.
     UsedUp,
     /// What came is no packet; the number of the fault, 1 for P1. End the connection.
     Packet(u32),

@@ -119,7 +119,7 @@ fn parts_are_refused() {
     parts.tries = 21;
     assert_eq!(server_refusal(parts), Some(Refused::Config(9)));
     let mut parts = client_parts(vec![]);
-    parts.side.ciphers = "chacha20-poly1305@openssh.com,aes128-ctr".into();
+    parts.side.ciphers = "chacha20-poly1305@openssh.com,aes192-ctr".into();
     assert_eq!(refusal(parts), Some(Refused::Config(13)));
     for len in [0, 31, 33, 64] {
         assert_eq!(refusal(client_parts(vec![Proof::Key(vec![9; len])])), Some(Refused::Config(14)));

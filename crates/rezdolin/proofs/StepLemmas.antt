@@ -303,7 +303,7 @@ more_taken used n piece = sym (take-add used n piece)
 pub ended_so : (d : DecisionsData) (e : AskingData DeployedSuite) (digest h s : List ℕ) (end : EndNumbers) (session : Option Session) (told : List ℕ) → asking_end e ≢ Open → end ≡ end_numbers (asking_end e) → by_input (asking_end e) ≡ true
     → told ≡ spelled session
     → ((d : DecisionsData) (h s : List ℕ) (p : AskingAfter means d e h s) (a : AgreedData) → asking_end e ≡ Authenticated a
-    → (x : Session) × (session ≡ Some x) × IsSession (asking_setup means d e) p.stands.units p.stands.answers a x × (p.stands.rest ≡ []) × (p.earlier ≡ h))
+    → (x : Session) × (session ≡ Some x) × IsSession (asking_setup means d e) p.stands.units p.stands.answers p.stands.sizes a x × (p.stands.rest ≡ []) × (p.earlier ≡ h))
     → (((a : AgreedData) → asking_end e ≢ Authenticated a) → session ≡ None)
     → AskingAfter means d e h s → (left : List ℕ) → left ≡ [] → StandsNow (asking_setup means d e) digest h s end left told
 ended_so d e digest h s end session told closed end_is brought told_is hands none p left empty = inr (

@@ -1,6 +1,6 @@
 -- The session that an authenticated endpoint hands over, as bytes.
 
-use Rattle.std.specs.Prelude.{ℕ, Bool, true, false, List, [], ◌∷◌, ◌++◌, Option, None, Some, string_bytes}
+use Rattle.std.specs.Prelude.{ℕ, ◌/◌, ◌%◌, ◌^◌, Bool, true, false, List, [], ◌∷◌, ◌++◌, Option, None, Some, string_bytes}
 use Rattle.sshwire.specs.Types.{string, uint32}
 use Rattle.sshpacket.specs.KeysData.{KeysData}
 use Rattle.sshcore.specs.declared.session.Accepted.{Accepted}
@@ -13,15 +13,16 @@ abbrev pub strings : List (List ℕ) → List ℕ
 strings [] = []
 strings (field ∷ fields) = string field ++ strings fields
 
--- The state of a direction: the number of the next packet, how many were sealed or opened by this state, the names of
--- cipher and MAC, and the keys.
-abbrev pub state_bytes : ℕ → ℕ → KeysData → List ℕ
-state_bytes number count keys =
-    uint32 number ++ (uint32 count ++ strings (keys.cipher ∷ keys.mac ∷ keys.iv ∷ keys.enc ∷ keys.mac_key ∷ []))
+-- The state of a direction: the number of the next packet, how many were sealed or opened by this state, how many bytes they had, in
+-- 64 bits, the names of cipher and MAC, and the keys.
+abbrev pub state_bytes : ℕ → ℕ → ℕ → KeysData → List ℕ
+state_bytes number count bytes keys =
+    uint32 number ++ (uint32 count ++ (uint32 (bytes / 2 ^ 32) ++ (uint32 (bytes % 2 ^ 32)
+    ++ strings (keys.cipher ∷ keys.mac ∷ keys.iv ∷ keys.enc ∷ keys.mac_key ∷ []))))
 
 -- before any packet
 abbrev pub direction_bytes : Direction → List ℕ
-direction_bytes direction = state_bytes direction.sequence_number 0 direction.keys
+direction_bytes direction = state_bytes direction.sequence_number 0 0 direction.keys
 
 abbrev pub flag : Bool → List ℕ
 flag true = 1 ∷ []

@@ -47,7 +47,7 @@ pub record HasEnded (setup : Setup) (h s : List ℕ) (end : EndNumbers) (told : 
   pub brought : by_input (end_data state.end) ≡ true
   pub end_is : end ≡ end_numbers (end_data state.end)
   pub hands : (a : AgreedData) → end_data state.end ≡ Authenticated a
-      → (session : Session) × IsSession setup stands.stands.units stands.stands.answers a session × (told ≡ record_of session)
+      → (session : Session) × IsSession setup stands.stands.units stands.stands.answers stands.stands.sizes a session × (told ≡ record_of session)
       × (stands.stands.rest ≡ []) × (stands.earlier ≡ h)
   pub none : ((a : AgreedData) → end_data state.end ≢ Authenticated a) → told ≡ []
 

@@ -255,7 +255,7 @@ pub extern "C" fn rezdolin_read_identity(alloc: Global, text: &[u8], out: &mut [
     }
 }
 
-/// Seals a payload of 1 to 32768 bytes by the state of the outgoing direction, and raises the numbers in it. Where it
+/// Seals a payload of 1 to 32768 bytes by the state of the outgoing direction, and makes it that of the next packet. Where it
 /// isn't answered all is as before.
 #[unsafe(no_mangle)]
 pub extern "C" fn rezdolin_seal(
@@ -274,8 +274,8 @@ pub extern "C" fn rezdolin_seal(
     }
 }
 
-/// Opens the packet at the front of what was received, by the state of the incoming direction, and raises the numbers in
-/// it. `out` gets its payload; a room of 32768 bytes is always enough. Where it isn't answered all is as before.
+/// Opens the packet at the front of what was received, by the state of the incoming direction, and makes it that of the next
+/// packet. `out` gets its payload; a room of 32768 bytes is always enough. Where it isn't answered all is as before.
 #[unsafe(no_mangle)]
 pub extern "C" fn rezdolin_open(
     alloc: Global,

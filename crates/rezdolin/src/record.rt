@@ -31,14 +31,14 @@ fn session_record(alloc: Global, session: &Session) -> Result<Vec<u8>, Memory>
 }
 
 /// Appends the states of both directions.
-#[tactic(auto, using(crate::proofs::RecordLemmas::two_puts))]
 fn put_directions(alloc: Global, session: &Session, out: &mut Vec<u8>) -> Result<(), Memory>
     ensures { OnOk result (out.new.items ≡ out.old.items ++ strings (direction_fields session.now)) }
 {
     let incoming = state_of(alloc, &session.incoming)?;
     put_field(&incoming, out)?;
     let outgoing = state_of(alloc, &session.outgoing)?;
-    put_field(&outgoing, out)
+    put_field(&outgoing, out)?;
+    Ok(())
 }
 
 /// Appends what was agreed, and whom the peer showed itself to be.

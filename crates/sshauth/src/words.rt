@@ -63,12 +63,14 @@ const SERVER: &[&str] = &[
 const KEX: &str =
     "mlkem768x25519-sha256,curve25519-sha256,curve25519-sha256@libssh.org,diffie-hellman-group14-sha256";
 
-/// All ciphers that the suite has, which are listed where no word names others. The second works only where both sides are strict.
-const CIPHERS: &str = "chacha20-poly1305@openssh.com,aes256-gcm@openssh.com";
+/// All ciphers that the suite has, which are listed where no word names others: those with a tag of their own first.
+const CIPHERS: &str =
+    "chacha20-poly1305@openssh.com,aes256-gcm@openssh.com,aes128-gcm@openssh.com,aes256-ctr,aes128-ctr";
 
-/// MACs that peers list: the ciphers need none, but each side has to choose one.
-const MAC: &str =
-    "hmac-sha2-256-etm@openssh.com,hmac-sha2-512-etm@openssh.com,hmac-sha2-256,hmac-sha2-512,hmac-sha1";
+/// All MACs that the suite has, which the last two ciphers use, and each side has to choose one beside the others too: those that cover
+/// what is sealed first.
+const MACS: &str =
+    "hmac-sha2-256-etm@openssh.com,hmac-sha2-512-etm@openssh.com,hmac-sha2-256,hmac-sha2-512";
 
 /// What the words ask for, or the first word that is refused.
 pub(crate) fn read_words<'a>(
@@ -202,6 +204,7 @@ fn settings_of<'a>(job: Job, given: &[Given<'a>]) -> Result<Settings<'a>, WordFa
         value_of(given, "cipher").unwrap_or(CIPHERS),
         CIPHERS,
     )?;
+    let mac = known("mac", value_of(given, "mac").unwrap_or(MACS), MACS)?;
     let exec = short("exec", value_of(given, "exec"))?;
     let agent = agent_of(job, given)?;
     Ok(Settings {
@@ -222,7 +225,7 @@ fn settings_of<'a>(job: Job, given: &[Given<'a>]) -> Result<Settings<'a>, WordFa
         guess,
         kex,
         cipher,
-        mac: value_of(given, "mac").unwrap_or(MAC),
+        mac,
         exec,
         report: value_of(given, "report"),
         agent,

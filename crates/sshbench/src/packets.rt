@@ -1,7 +1,7 @@
 //! Streams of packets, read in pieces.
 
 use crate::fault::{Fault, holds};
-use sshpacket::{KeyParts, Keys, PacketReader, PacketStep, write_clear, write_sealed};
+use sshpacket::{KeyParts, Keys, PacketReader, PacketStep, write_clear, write_next};
 use sshsuites::LabSuite;
 use sshwire::PAYLOAD_LIMIT;
 use std::alloc::{AllocError, Global};
@@ -62,8 +62,8 @@ pub(crate) struct Stream {
 impl Stream {
     /// So many packets.
     pub(crate) fn new(alloc: Global, load: Load, count: u32) -> Result<Stream, Fault> {
-        let keys = keys(alloc)?;
-        let bytes = packets(alloc, load, count, &keys);
+        let mut keys = keys(alloc)?;
+        let bytes = packets(alloc, load, count, &mut keys);
         drop(keys);
         Ok(Stream {
             load,
@@ -120,7 +120,7 @@ impl Stream {
 }
 
 /// So many packets, sealed with these keys where they are sealed.
-fn packets(alloc: Global, load: Load, count: u32, keys: &Keys) -> Result<Vec<u8>, Fault> {
+fn packets(alloc: Global, load: Load, count: u32, keys: &mut Keys) -> Result<Vec<u8>, Fault> {
     let payload = payload(alloc, load.payload_len)?;
     let mut bytes = Vec::new(alloc);
     let put = put_packets(alloc, load.sealed, count, keys, &payload, &mut bytes);
@@ -134,7 +134,7 @@ fn put_packets(
     alloc: Global,
     sealed: bool,
     count: u32,
-    keys: &Keys,
+    keys: &mut Keys,
     payload: &[u8],
     out: &mut Vec<u8>,
 ) -> Result<(), Fault> {
@@ -157,7 +157,7 @@ pub(crate) fn payload(alloc: Global, len: usize) -> Result<Vec<u8>, AllocError> 
 fn put_packet(
     alloc: Global,
     sealed: bool,
-    keys: &Keys,
+    keys: &mut Keys,
     seq: u32,
     payload: &[u8],
     out: &mut Vec<u8>,
@@ -166,7 +166,7 @@ fn put_packet(
         return Err(Fault::Otherwise);
     }
     let written = if sealed {
-        write_sealed(alloc, &LabSuite, keys, seq, payload, b"seed", out)
+        write_next(alloc, &LabSuite, keys, seq, payload, b"seed", out)
     } else {
         write_clear(alloc, &LabSuite, seq, payload, b"seed", out)
     };

@@ -82,13 +82,13 @@ unread_all m i j earlier (Some w) h none u = absurd cc
 
 module _ (streams : Streams) (setup : Setup) where
   -- what was sent to the front of an input is the front of what was sent to it
-  sent_front : (units other_units : Units) (rest other_rest : List ℕ) (r other_r : Option Refusal) (answers other_answers : Units) (end other_end : EndData) (h z s t : List ℕ) → r ≡ None
-      → History setup units rest r answers end h s → History setup other_units other_rest other_r other_answers other_end (h ++ z) t → IsPrefix s t
-  sent_front units other_units rest other_rest r other_r answers other_answers end other_end h z s t none a b =
+  sent_front : (units other_units : Units) (sizes other_sizes rest other_rest : List ℕ) (r other_r : Option Refusal) (answers other_answers : Units) (end other_end : EndData) (h z s t : List ℕ) → r ≡ None
+      → History setup units sizes rest r answers end h s → History setup other_units other_sizes other_rest other_r other_answers other_end (h ++ z) t → IsPrefix s t
+  sent_front units other_units sizes other_sizes rest other_rest r other_r answers other_answers end other_end h z s t none a b =
       record { rest = flat_places (spells setup.suite setup.role setup.config (units ++ front.rest)) (setup.config.version ∷ answers) added; whole_is = spelled }
     where
       front : IsPrefix units other_units
-      front = streams.front (parsers setup.suite setup.role setup.config) (each streams setup.suite setup.role setup.config) h z units other_units rest other_rest r other_r a.received b.received
+      front = streams.front (parsers setup.suite setup.role setup.config) (each streams setup.suite setup.role setup.config) h z units other_units sizes other_sizes rest other_rest r other_r a.received b.received
 
       added : Units
       added = flat_places (answers_at setup) units front.rest ++ (refusal_reply other_r).answers
@@ -121,9 +121,9 @@ module _ (streams : Streams) (setup : Setup) where
   stands_front kept other_kept i other_i w h more s t is a b =
       let u = unread_front setup.suite a.reader i a.earlier w h a.unread in
       let o = received_open a.stands.received_end kept.end a.stands.ends is in
-      sent_front a.stands.units b.units a.stands.rest b.rest a.stands.refusal b.refusal a.stands.answers b.answers a.stands.received_end b.received_end a.earlier (u.0 ++ more) s t
+      sent_front a.stands.units b.units a.stands.sizes b.sizes a.stands.rest b.rest a.stands.refusal b.refusal a.stands.answers b.answers a.stands.received_end b.received_end a.earlier (u.0 ++ more) s t
       (none_refused setup a.stands.units a.stands.refusal a.stands.received_end o a.stands.history.replies.ends) a.stands.history
-      (subst (λ (l : List ℕ). History setup b.units b.rest b.refusal b.answers b.received_end l t) (ap (λ (l : List ℕ). l ++ more) u.1 ∙ append_assoc a.earlier u.0 more) b.history)
+      (subst (λ (l : List ℕ). History setup b.units b.sizes b.rest b.refusal b.answers b.received_end l t) (ap (λ (l : List ℕ). l ++ more) u.1 ∙ append_assoc a.earlier u.0 more) b.history)
 
 -- of an endpoint that waits: what was received before the packet, and what the packet asks after that
 pub record WaitsAfter (setup : Setup) (units : Units) (w : WaitingData) (h : List ℕ) : Type 0 where
@@ -131,13 +131,14 @@ pub record WaitsAfter (setup : Setup) (units : Units) (w : WaitingData) (h : Lis
   pub before : Units
   pub units_are : units ≡ version ∷ before
   pub asks : question_after setup version before w.payload ≡ Some w.question
-  pub received : Received (parsers setup.suite setup.role setup.config) h (units ++ w.payload ∷ []) [] None
+  pub sizes : List ℕ
+  pub received : Received (parsers setup.suite setup.role setup.config) h (units ++ w.payload ∷ []) sizes [] None
 
 module _ (streams : Streams) (setup : Setup) where
   pub waits_after : (kept : StateData) (j : Input) (w : WaitingData) (h s : List ℕ) → kept.end ≡ Open → question_at setup.suite setup.role setup.config kept w.payload ≡ Some w.question
       → (a : AskingStands setup kept j (Some w) h s) → WaitsAfter setup a.stands.units w h
   waits_after kept j w h s is asks a =
-      record { version = at.0; before = at.1; units_are = at.2; asks = sym (asked.stands setup at.0 at.1 w.payload kept sits) ∙ asks; received = received }
+      record { version = at.0; before = at.1; units_are = at.2; asks = sym (asked.stands setup at.0 at.1 w.payload kept sits) ∙ asks; sizes = sizes; received = received }
     where
       taken : List ℕ
       taken = a.unread.0
@@ -145,41 +146,44 @@ module _ (streams : Streams) (setup : Setup) where
       packet : ReadsPacket setup.suite a.reader j w taken
       packet = a.unread.2
 
-      inside : IsInside setup a.stands.units a.stands.answers a.stands.rest kept a.reader
+      inside : IsInside setup a.stands.units a.stands.answers a.stands.sizes a.stands.rest kept a.reader
       inside = a.stands.inside (inl is)
 
-      at : IsInput setup.suite setup.role setup.config a.stands.units a.stands.rest (input.Packets packet.before)
-      at = subst (IsInput setup.suite setup.role setup.config a.stands.units a.stands.rest) packet.was inside.reads
+      at : IsInput setup.suite setup.role setup.config a.stands.units a.stands.sizes a.stands.rest (input.Packets packet.before)
+      at = subst (IsInput setup.suite setup.role setup.config a.stands.units a.stands.sizes a.stands.rest) packet.was inside.reads
 
       sits : Sits setup at.0 at.1 kept.phase kept.guess kept.known
       sits = subst (λ (us : Units). Sits setup (version_in us) (payloads_in us) kept.phase kept.guess kept.known) at.2 inside.sits
 
-      seen : parsers setup.suite setup.role setup.config a.stands.units (a.stands.rest ++ taken) ≡ whole w.payload (length a.stands.rest + length taken)
-      seen = read_as setup.suite setup.role setup.config a.stands.units at.0 at.1 a.stands.rest taken (packet_reader_data packet.before) at.2 at.3 ∙ packet.reads
+      seen : parsers setup.suite setup.role setup.config a.stands.units a.stands.sizes (a.stands.rest ++ taken) ≡ whole w.payload (length a.stands.rest + length taken)
+      seen = read_as setup.suite setup.role setup.config a.stands.units at.0 at.1 a.stands.sizes a.stands.rest taken (packet_reader_data packet.before) at.2 at.3 ∙ packet.reads
           ∙ ap (λ (t : PacketReaderData). whole w.payload (length t.held + length taken)) at.3
 
       none : a.stands.refusal ≡ None
       none = none_refused setup a.stands.units a.stands.refusal a.stands.received_end (received_open a.stands.received_end kept.end a.stands.ends is) a.stands.history.replies.ends
 
-      earlier : Received (parsers setup.suite setup.role setup.config) a.earlier a.stands.units a.stands.rest None
-      earlier = subst (λ (r : Option Refusal). Received (parsers setup.suite setup.role setup.config) a.earlier a.stands.units a.stands.rest r) none a.stands.history.received
+      earlier : Received (parsers setup.suite setup.role setup.config) a.earlier a.stands.units a.stands.sizes a.stands.rest None
+      earlier = subst (λ (r : Option Refusal). Received (parsers setup.suite setup.role setup.config) a.earlier a.stands.units a.stands.sizes a.stands.rest r) none a.stands.history.received
 
-      received : Received (parsers setup.suite setup.role setup.config) h (a.stands.units ++ w.payload ∷ []) [] None
-      received = subst (λ (l : List ℕ). Received (parsers setup.suite setup.role setup.config) l (a.stands.units ++ w.payload ∷ []) [] None)
+      sizes : List ℕ
+      sizes = a.stands.sizes ++ (length a.stands.rest + length taken) ∷ []
+
+      received : Received (parsers setup.suite setup.role setup.config) h (a.stands.units ++ w.payload ∷ []) sizes [] None
+      received = subst (λ (l : List ℕ). Received (parsers setup.suite setup.role setup.config) l (a.stands.units ++ w.payload ∷ []) sizes [] None)
           (ap (λ (l : List ℕ). a.earlier ++ l) (take-length taken) ∙ sym a.unread.1)
-          (streams.unit (parsers setup.suite setup.role setup.config) (each streams setup.suite setup.role setup.config) a.earlier taken a.stands.units a.stands.rest w.payload (length taken) earlier (omega arith) seen)
+          (streams.unit (parsers setup.suite setup.role setup.config) (each streams setup.suite setup.role setup.config) a.earlier taken a.stands.units a.stands.sizes a.stands.rest w.payload (length taken) earlier (omega arith) seen)
 
   -- what is asked after more was received comes later
   pub asks_later : Numbered → (units other_units : Units) (w other_w : WaitingData) (h more : List ℕ) → more ≢ [] → WaitsAfter setup units w h → WaitsAfter setup other_units other_w (h ++ more) → ComesLater w.question other_w.question
   asks_later numbers units other_units w other_w h more some a b = by front.rest front.whole_is
     where
       front : IsPrefix (units ++ w.payload ∷ []) (other_units ++ other_w.payload ∷ [])
-      front = streams.front (parsers setup.suite setup.role setup.config) (each streams setup.suite setup.role setup.config) h more (units ++ w.payload ∷ []) (other_units ++ other_w.payload ∷ []) [] [] None None a.received b.received
+      front = streams.front (parsers setup.suite setup.role setup.config) (each streams setup.suite setup.role setup.config) h more (units ++ w.payload ∷ []) (other_units ++ other_w.payload ∷ []) a.sizes b.sizes [] [] None None a.received b.received
 
       by : (rest : Units) → other_units ++ other_w.payload ∷ [] ≡ (units ++ w.payload ∷ []) ++ rest → ComesLater w.question other_w.question
-      by [] e = absurd (some (read_after (parsers setup.suite setup.role setup.config) [] (h ++ more) (units ++ w.payload ∷ []) [] more []
-          (streams.more (parsers setup.suite setup.role setup.config) (each streams setup.suite setup.role setup.config) [] h more (units ++ w.payload ∷ []) [] a.received.read)
-          (subst (λ (us : Units). Received (parsers setup.suite setup.role setup.config) (h ++ more) us [] None) e b.received).read))
+      by [] e = absurd (some (read_after (parsers setup.suite setup.role setup.config) [] [] (h ++ more) (units ++ w.payload ∷ []) [] a.sizes b.sizes more []
+          (streams.more (parsers setup.suite setup.role setup.config) (each streams setup.suite setup.role setup.config) [] [] h more (units ++ w.payload ∷ []) a.sizes [] a.received.read)
+          (subst (λ (us : Units). Received (parsers setup.suite setup.role setup.config) (h ++ more) us b.sizes [] None) e b.received).read).2.1)
       by (u ∷ us) e =
           let p : IsPrefix (units ++ w.payload ∷ []) other_units = before_last other_units units other_w.payload w.payload u us (e ∙ append_assoc units (w.payload ∷ []) (u ∷ us)) in
           let versions : b.version ∷ b.before ≡ a.version ∷ ((a.before ++ w.payload ∷ []) ++ p.rest) =
@@ -227,9 +231,9 @@ module _ {S : Type 0} (meaning : S → SuiteData) where
       received_of law none other_none h g s t x y a b e f k =
           let here : a.earlier ≡ h = unread_all (meaning one.suite) a.reader one.input a.earlier one.waiting h none a.unread in
           let there : b.earlier ≡ g = unread_all (meaning other.suite) b.reader other.input b.earlier other.waiting g other_none b.unread in
-          let j = law (asking_setup meaning d one) a.stands.units b.stands.units a.stands.rest b.stands.rest a.stands.refusal b.stands.refusal a.stands.answers b.stands.answers
+          let j = law (asking_setup meaning d one) a.stands.units b.stands.units a.stands.sizes b.stands.sizes a.stands.rest b.stands.rest a.stands.refusal b.stands.refusal a.stands.answers b.stands.answers
           a.stands.received_end b.stands.received_end a.earlier b.earlier s t x y a.stands.history
-          (subst (λ (z : Setup). History z b.stands.units b.stands.rest b.stands.refusal b.stands.answers b.stands.received_end b.earlier t) one_setup b.stands.history)
+          (subst (λ (z : Setup). History z b.stands.units b.stands.sizes b.stands.rest b.stands.refusal b.stands.answers b.stands.received_end b.earlier t) one_setup b.stands.history)
           (ap (λ (l : List ℕ). l ++ x) here ∙ e ∙ sym (ap (λ (l : List ℕ). l ++ y) there)) f k in
           (sym here ∙ j.0 ∙ there, j.1.same_sent, j.1.same_end)
 

@@ -11,7 +11,7 @@ use Rattle.sshpacket.specs.KeysData.{KeysData}
 use Rattle.sshpacket.specs.PacketReaderData.{PacketReaderData, ahead, packet_reader_data, protection_at}
 use Rattle.sshpacket.specs.Parse.{parse_packet, whole}
 use Rattle.sshpacket.specs.Stream.{IsIncremental}
-use Rattle.sshpacket.specs.Suite.{SuiteData}
+use Rattle.sshpacket.specs.Suite.{SuiteData, next_keys}
 use Rattle.sshcore.specs.declared.input.Input.{Input}
 use Rattle.sshcore.specs.declared.input.Input.TheVariants as input
 use Rattle.sshcore.specs.declared.state.State.{State}
@@ -36,7 +36,8 @@ use Rattle.sshcore.proofs.ReadLemmas.{packets_unit, reader_with}
 -- what the reader answered is what the packet's own bytes read as
 module _ (m : SuiteData) (r p : PacketReader) (inc : IsIncremental (parse_packet (protection_at m (packet_reader_data r)))) where
   pub reads_packet : (piece : List ℕ) (used : ℕ) (w : WaitingData) → used ≤ length piece → ahead m (packet_reader_data r) piece ≡ whole w.payload (length (packet_reader_data r).held + used)
-      → w.packet ≡ (packet_reader_data r).seq → packet_reader_data p ≡ record (packet_reader_data r) { held = []; seq = ((packet_reader_data r).seq + 1) % 2 ^ 32 }
+      → w.packet ≡ (packet_reader_data r).seq
+      → packet_reader_data p ≡ record (packet_reader_data r) { keys = next_keys m (packet_reader_data r).keys (length (packet_reader_data r).held + used); held = []; seq = ((packet_reader_data r).seq + 1) % 2 ^ 32 }
       → ReadsPacket m (input.Packets r) (input.Packets p) w (take used piece)
   reads_packet piece used w low e number left = record {
     before = r;
@@ -47,7 +48,9 @@ module _ (m : SuiteData) (r p : PacketReader) (inc : IsIncremental (parse_packet
         ∙ inc.whole_again ((packet_reader_data r).held ++ piece) w.payload (length (packet_reader_data r).held + used) e
         ∙ ap (λ (n : ℕ). whole w.payload (length (packet_reader_data r).held + n)) (sym (length-take-le used piece low));
     number = number;
-    left = left;
+    left = left
+        ∙ ap (λ (n : ℕ). record (packet_reader_data r) { keys = next_keys m (packet_reader_data r).keys (length (packet_reader_data r).held + n); held = []; seq = ((packet_reader_data r).seq + 1) % 2 ^ 32 })
+        (sym (length-take-le used piece low));
   }
 
 -- An endpoint where no packet waits stands as one that asks at once.
@@ -67,14 +70,14 @@ module _ (setup : Setup) (kept : StateData) (i : Input) (h s : List ℕ) where
     unread = [];
     received = sym a.unread.1 ∙ sym (append-nil a.earlier);
     all = λ e. refl;
-    broken = broken setup a.stands.units a.stands.rest a.stands.refusal a.stands.answers a.stands.received_end a.earlier s a.stands.history;
+    broken = broken setup a.stands.units a.stands.sizes a.stands.rest a.stands.refusal a.stands.answers a.stands.received_end a.earlier s a.stands.history;
   }
   broken_at (Some w) a = record {
     earlier = a.earlier;
     unread = a.unread.0;
     received = a.unread.1;
     all = λ e. absurd cc;
-    broken = broken setup a.stands.units a.stands.rest a.stands.refusal a.stands.answers a.stands.received_end a.earlier s a.stands.history;
+    broken = broken setup a.stands.units a.stands.sizes a.stands.rest a.stands.refusal a.stands.answers a.stands.received_end a.earlier s a.stands.history;
   }
 
 -- the decisions that always answer so, and a packet that asks
@@ -101,7 +104,7 @@ reads_as (Some keys) strict r = refl
 module _ (below : Below) (streams : Streams) (m : SuiteData) (role : Side) (party : ConfigData) (given : DecisionsData) (old new last : StateData) (before after : List ℕ) (is : old.end ≡ Open) where
   pub unit_steps : (r p q : PacketReader) (piece payload : List ℕ) (used packet : ℕ) → used ≤ length piece
       → ahead m (packet_reader_data r) piece ≡ whole payload (length (packet_reader_data r).held + used) → packet ≡ (packet_reader_data r).seq
-      → packet_reader_data p ≡ record (packet_reader_data r) { held = []; seq = ((packet_reader_data r).seq + 1) % 2 ^ 32 }
+      → packet_reader_data p ≡ record (packet_reader_data r) { keys = next_keys m (packet_reader_data r).keys (length (packet_reader_data r).held + used); held = []; seq = ((packet_reader_data r).seq + 1) % 2 ^ 32 }
       → (HasForm m old → Brings (setup_with m given role party) old new packet payload before after) → Turns new last p q
       → (d : DecisionsData) → decided_by d (question_at m role party old payload) ≡ decided_by given (question_at m role party old payload)
       → Steps (setup_with m d role party) (input.Packets r) old (input.Packets q) last (take used piece) before after

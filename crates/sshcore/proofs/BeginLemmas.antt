@@ -35,7 +35,7 @@ use Rattle.sshcore.proofs.PlanLemmas.{no_successful_key}
 use Rattle.sshcore.proofs.SendingLemmas as sending_lemmas
 use Rattle.sshcore.proofs.StandingLemmas as standing
 
-first_input : (m : SuiteData) (role : Side) (party : ConfigData) (i : Input) → Begins role (form_of party.reading role) i → IsInput m role party [] [] i
+first_input : (m : SuiteData) (role : Side) (party : ConfigData) (i : Input) → Begins role (form_of party.reading role) i → IsInput m role party [] [] [] i
 first_input m role party (input.Lines reader) b = (refl, b.0, b.1)
 first_input m role party (input.Packets reader) b = absurd b
 
@@ -62,11 +62,12 @@ module _ (below : Below) (streams : Streams) (setup : Setup) (new : StateData) (
       let phase_is : new.phase ≡ phase.KexInit = ap (λ (k : StateData). k.phase) is in
       record {
         units = [];
+        sizes = [];
         rest = [];
         refusal = None;
         answers = first;
         received_end = Open;
-        history = subst (λ (l : List ℕ). History setup [] [] None first Open [] l) (sym bytes) begin;
+        history = subst (λ (l : List ℕ). History setup [] [] [] None first Open [] l) (sym bytes) begin;
         ends = AsReceived (ap (λ (k : StateData). k.end) is);
         inside = λ o. record {
           sits = subst (λ (p : Phase). Sits setup [] [] p new.guess new.known) (sym phase_is)

@@ -76,7 +76,7 @@ module _ {S D : Type 0} (meaning : S → SuiteData) (policy : D → DecisionsDat
     appended = sym (append-nil out);
     follows = λ h s a. subst (λ (x : List ℕ). BrokenOff (endpoint_setup meaning policy e) x (s ++ [])) (sym (append-nil h))
         (subst (λ (x : List ℕ). BrokenOff (endpoint_setup meaning policy e) h x) (sym (append-nil s))
-        (broken (endpoint_setup meaning policy e) a.units a.rest a.refusal a.answers a.received_end h s a.history));
+        (broken (endpoint_setup meaning policy e) a.units a.sizes a.rest a.refusal a.answers a.received_end h s a.history));
     same = same;
   }
 

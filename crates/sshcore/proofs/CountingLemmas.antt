@@ -1,15 +1,18 @@
 -- The number of the next packet, with one payload more.
 
-use Rattle.std.proofs.Common.{◌≡◌, ◌⊎◌, inl, inr, ℕ, ◌+◌, Bool, true, false, cond, List, [], ◌∷◌, ◌++◌, length, length-append, refl, sym, ap, ◌∙◌}
+use Rattle.std.proofs.Common.{◌≡◌, ◌⊎◌, inl, inr, ℕ, ◌+◌, ◌-◌, Bool, true, false, cond, List, [], ◌∷◌, ◌++◌, drop, length, length-append, arith, refl, sym, ap, ◌∙◌}
 use Rattle.std.specs.Prelude.{◌%◌, ◌^◌}
 use Rattle.std.proofs.Math.Nat.{suc-mod}
 use Rattle.std.proofs.Math.Numerals.{add-one}
+use Rattle.std.proofs.Math.Seq.{drop-append_seam}
+use Rattle.std.proofs.lemmas.List.{append-nil, drop-append-le}
 use Rattle.sshneg.specs.declared.side.Side.{Side}
 use Rattle.sshpacket.specs.Places.{after_first}
 use Rattle.sshpacket.specs.Stream.{Units}
 use Rattle.sshpacket.proofs.Places.{after-push}
 use Rattle.sshcore.specs.Before.{kept, offered, since, stood, strict_at}
 use Rattle.sshcore.specs.Counting.{number_by, number_in}
+use Rattle.sshcore.specs.Directions.{sizes_since}
 use Rattle.sshcore.specs.EndpointParts.{ConfigData}
 use Rattle.sshcore.proofs.GuessLemmas.{strict_push}
 use Rattle.sshcore.proofs.PhaseLemmas.{stood_push}
@@ -27,18 +30,33 @@ switched true all = refl
 switched false all = mod_more all
 
 module _ (role : Side) (party : ConfigData) (before : Units) (payload : List ℕ) where
-  since_on : stood role party.offer 21 before ≡ true → since role party.offer 21 (before ++ payload ∷ []) ≡ since role party.offer 21 before + 1
+  pub since_on : stood role party.offer 21 before ≡ true → since role party.offer 21 (before ++ payload ∷ []) ≡ since role party.offer 21 before + 1
   unfolding since stood
   since_on on =
       let more : after_first (kept role party.offer 21) [] (before ++ payload ∷ []) ≡ after_first (kept role party.offer 21) [] before ++ payload ∷ [] =
       after-push (kept role party.offer 21) [] before payload ∙ rw on refl in
       ap length more ∙ length-append (after_first (kept role party.offer 21) [] before) (payload ∷ [])
 
-  since_off : stood role party.offer 21 before ≡ false → since role party.offer 21 (before ++ payload ∷ []) ≡ 0
+  pub since_off : stood role party.offer 21 before ≡ false → since role party.offer 21 (before ++ payload ∷ []) ≡ 0
   unfolding since stood
   since_off off =
       let none : after_first (kept role party.offer 21) [] (before ++ payload ∷ []) ≡ [] = after-push (kept role party.offer 21) [] before payload ∙ rw off refl in
       ap (λ (l : Units). length l) none
+
+  -- of the sizes of all units, those since the key switch
+  pub sizes_on : (sizes : List ℕ) (size : ℕ) → stood role party.offer 21 before ≡ true
+      → sizes_since role party (before ++ payload ∷ []) (sizes ++ size ∷ []) ≡ sizes_since role party before sizes ++ size ∷ []
+  sizes_on sizes size on =
+      let all : length (sizes ++ size ∷ []) ≡ length sizes + 1 = length-append sizes (size ∷ []) in
+      let more : since role party.offer 21 (before ++ payload ∷ []) ≡ since role party.offer 21 before + 1 = since_on on in
+      let left : length (sizes ++ size ∷ []) - since role party.offer 21 (before ++ payload ∷ []) ≡ length sizes - since role party.offer 21 before = omega (arith, all, more) in
+      ap (λ (n : ℕ). drop n (sizes ++ size ∷ [])) left ∙ drop-append-le (length sizes - since role party.offer 21 before) sizes (size ∷ []) (omega arith)
+
+  pub sizes_off : (sizes : List ℕ) → stood role party.offer 21 before ≡ false → sizes_since role party (before ++ payload ∷ []) sizes ≡ []
+  sizes_off sizes off =
+      let none : since role party.offer 21 (before ++ payload ∷ []) ≡ 0 = since_off off in
+      let left : length sizes - since role party.offer 21 (before ++ payload ∷ []) ≡ length sizes = omega (arith, none) in
+      ap (λ (n : ℕ). drop n sizes) left ∙ (ap (λ (xs : List ℕ). drop (length sizes) xs) (sym (append-nil sizes)) ∙ drop-append_seam sizes [])
 
   -- the packet after the key switch
   pub number_switched : offered before ≡ true → stood role party.offer 21 before ≡ false → kept role party.offer 21 before payload ≡ true

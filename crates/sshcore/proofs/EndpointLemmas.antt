@@ -36,28 +36,28 @@ module _ (setup : Setup) where
 
 -- the law of histories' clause of joined inputs
 abbrev pub Joined : Type 0
-Joined = (setup : Setup) (units other_units : Units) (rest other_rest : List ℕ) (r other_r : Option Refusal) (answers other_answers : Units)
-    (end other_end : EndData) (h g s t x y : List ℕ) → History setup units rest r answers end h s → History setup other_units other_rest other_r other_answers other_end g t
+Joined = (setup : Setup) (units other_units : Units) (sizes other_sizes rest other_rest : List ℕ) (r other_r : Option Refusal) (answers other_answers : Units)
+    (end other_end : EndData) (h g s t x y : List ℕ) → History setup units sizes rest r answers end h s → History setup other_units other_sizes other_rest other_r other_answers other_end g t
     → h ++ x ≡ g ++ y → (end ≡ Open → x ≡ []) → (other_end ≡ Open → y ≡ [])
     → (h ≡ g) × IsOneHistory units other_units rest other_rest r other_r answers other_answers end other_end s t
 
 module _ {S D : Type 0} (meaning : S → SuiteData) (policy : D → DecisionsData) where
   -- what another endpoint of the same config has received and sent is a history of this one's
-  same_history : (one other : EndpointData S D) → IsSameEndpoint one other → (units : Units) (rest : List ℕ) (r : Option Refusal) (answers : Units) (end : EndData) (h s : List ℕ)
-      → History (endpoint_setup meaning policy other) units rest r answers end h s
-      → History (endpoint_setup meaning policy one) units rest r answers end h s
-  same_history one other same units rest r answers end h s a =
-      subst (λ (v : S). History (setup_with (meaning v) (policy one.decisions) one.role one.party) units rest r answers end h s) same.same_suite
-      (subst (λ (v : D). History (setup_with (meaning other.suite) (policy v) one.role one.party) units rest r answers end h s) same.same_decisions
-      (subst (λ (v : Side). History (setup_with (meaning other.suite) (policy other.decisions) v one.party) units rest r answers end h s) same.same_role
-      (subst (λ (v : ConfigData). History (setup_with (meaning other.suite) (policy other.decisions) other.role v) units rest r answers end h s) same.same_config a)))
+  same_history : (one other : EndpointData S D) → IsSameEndpoint one other → (units : Units) (sizes rest : List ℕ) (r : Option Refusal) (answers : Units) (end : EndData) (h s : List ℕ)
+      → History (endpoint_setup meaning policy other) units sizes rest r answers end h s
+      → History (endpoint_setup meaning policy one) units sizes rest r answers end h s
+  same_history one other same units sizes rest r answers end h s a =
+      subst (λ (v : S). History (setup_with (meaning v) (policy one.decisions) one.role one.party) units sizes rest r answers end h s) same.same_suite
+      (subst (λ (v : D). History (setup_with (meaning other.suite) (policy v) one.role one.party) units sizes rest r answers end h s) same.same_decisions
+      (subst (λ (v : Side). History (setup_with (meaning other.suite) (policy other.decisions) v one.party) units sizes rest r answers end h s) same.same_role
+      (subst (λ (v : ConfigData). History (setup_with (meaning other.suite) (policy other.decisions) other.role v) units sizes rest r answers end h s) same.same_config a)))
 
   -- endpoints that were given one input used the same bytes of it, and sent and came to the same by them
   pub joined_received : Joined → (one other : EndpointData S D) → IsSameEndpoint one other → (h g s t x y : List ℕ) → (a : EndpointAfter meaning policy one h s) → (b : EndpointAfter meaning policy other g t)
       → h ++ x ≡ g ++ y → (a.received_end ≡ Open → x ≡ []) → (b.received_end ≡ Open → y ≡ []) → (h ≡ g) × (s ≡ t) × (a.received_end ≡ b.received_end)
   joined_received law one other same h g s t x y a b e f k =
-      let j = law (endpoint_setup meaning policy one) a.units b.units a.rest b.rest a.refusal b.refusal a.answers b.answers a.received_end b.received_end h g s t x y
-      a.history (same_history one other same b.units b.rest b.refusal b.answers b.received_end g t b.history) e f k in
+      let j = law (endpoint_setup meaning policy one) a.units b.units a.sizes b.sizes a.rest b.rest a.refusal b.refusal a.answers b.answers a.received_end b.received_end h g s t x y
+      a.history (same_history one other same b.units b.sizes b.rest b.refusal b.answers b.received_end g t b.history) e f k in
       (j.0, j.1.same_sent, j.1.same_end)
 
   -- and where neither was ended by its owner, they end the same

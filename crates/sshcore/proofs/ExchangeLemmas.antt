@@ -154,7 +154,7 @@ module _ (m : SuiteData) (role : Side) (party : ConfigData) (old new : StateData
   receives_on : (x : ExchangeData) (hash : List ℕ) (o : Sending) (answers : Units) → exchange_of_message m role party old.known message ≡ x
       → hash ≡ exchange_hash m old.known.algorithms.kex x → old.end ≡ Open → StandsAfter m role party old new x.host_key x.shared hash o
       → after ≡ before ++ sent_from m party.seed old.known.strict (keys_by m old.known.algorithms x role) old.sending answers
-      → o ≡ sending_from old.known.strict (keys_by m old.known.algorithms x role) old.sending answers → AllFit answers
+      → o ≡ sending_from m old.known.strict (keys_by m old.known.algorithms x role) old.sending answers → AllFit answers
       → ReceivesExchange m role party old new before after message (goes answers)
   receives_on x hash o answers e is ongoing stands output sends fits =
       let keys : kex_keys m old.known.algorithms x.shared hash (other role) ≡ keys_by m old.known.algorithms x (other role) =
@@ -262,10 +262,10 @@ module _ (m : SuiteData) (d : DecisionsData) (party : ConfigData) (old new : Sta
       let two = sent_two m party.seed old.known.strict next old.sending reply (written_message NewKeys) quiet newkeys_kind (form.clear (ap past_exchange at)) in
       let all = sent_then m party.seed old.known.strict next old.sending answers told in
       let own : KeysData = kex_keys m a answer.shared hash Server in
-      let switched : KeysData → Sending = λ k. with_newkeys old.known.strict k (with_packet old.sending) in
-      let o : Sending = sending_from old.known.strict own (switched own) told in
+      let switched : KeysData → Sending = λ k. with_newkeys old.known.strict k (with_packet m reply old.sending) in
+      let o : Sending = sending_from m old.known.strict own (switched own) told in
       let first : List ℕ = spelled_by m old.sending.keys party.seed old.sending.number reply in
-      let second : List ℕ = spelled_by m old.sending.keys party.seed (with_packet old.sending).number (written_message NewKeys) in
+      let second : List ℕ = spelled_by m (with_packet m reply old.sending).keys party.seed (with_packet m reply old.sending).number (written_message NewKeys) in
       let third : Sending → List ℕ = λ p. sent_from m party.seed old.known.strict next p told in
       subst (λ (r : Reply). ReceivesExchange m Server party old new before after message r) (sym is)
       (receives_on m Server party old new before after message x hash o (reply ∷ written_message NewKeys ∷ told) (hashed_server answer given) signed.hash_is ongoing
@@ -276,8 +276,8 @@ module _ (m : SuiteData) (d : DecisionsData) (party : ConfigData) (old new : Sta
       ∙ ap (λ (l : List ℕ). before ++ (l ++ third (switched next))) (sym two.0)
       ∙ ap (λ (p : Sending). before ++ (sent_from m party.seed old.known.strict next old.sending answers ++ third p)) (sym two.1)
       ∙ ap (λ (l : List ℕ). before ++ l) (sym all.0))
-      (ap (λ (k : KeysData). sending_from old.known.strict k (switched k) told) keys
-      ∙ ap (λ (p : Sending). sending_from old.known.strict next p told) (sym two.1) ∙ sym all.1)
+      (ap (λ (k : KeysData). sending_from m old.known.strict k (switched k) told) keys
+      ∙ ap (λ (p : Sending). sending_from m old.known.strict next p told) (sym two.1) ∙ sym all.1)
       (fit_both answers told (signed.fits, (newkeys_fits, tt)) sent.fits))
 
   pub init_answers : (role : Side) (answer : ResponseData) (shared hash host_key reply : List ℕ) → role ≡ Server → shared ≡ answer.shared
@@ -340,10 +340,10 @@ module _ (m : SuiteData) (d : DecisionsData) (party : ConfigData) (old new : Sta
       let is : reply_reply (setup_with m d Client party) old.known message signature ≡ goes (written_message NewKeys ∷ request ∷ []) = reply_is shared trusts given ∙ rw on refl in
       let two = sent_switch m party.seed old.known.strict next old.sending (written_message NewKeys) request newkeys_kind request_kind (form.clear (ap past_exchange at)) in
       subst (λ (r : Reply). ReceivesExchange m Client party old new before after message r) (sym is)
-      (receives_on m Client party old new before after message x hash (with_packet o) (written_message NewKeys ∷ request ∷ []) (hashed_client shared given) refl ongoing sent.stands
+      (receives_on m Client party old new before after message x hash (with_packet m request o) (written_message NewKeys ∷ request ∷ []) (hashed_client shared given) refl ongoing sent.stands
       (sent.output ∙ append_assoc before (spelled_by m old.sending.keys party.seed old.sending.number (written_message NewKeys)) (spelled_by m o.keys party.seed o.number request)
       ∙ ap (λ (l : List ℕ). before ++ l) (sym two.0))
-      (ap (λ (k : KeysData). with_packet (with_newkeys old.known.strict k old.sending)) keys ∙ sym two.1)
+      (ap (λ (k : KeysData). with_packet m request (with_newkeys old.known.strict k old.sending)) keys ∙ sym two.1)
       (newkeys_fits, (request_fits, tt)))
 
   pub reply_judged : (role : Side) (shared body : List ℕ) → role ≡ Client → shared ≡ body → d.host_key old.known.algorithms.host_key host_key ≡ true

@@ -10,9 +10,10 @@ use Rattle.sshpacket.specs.KeysData.{KeysData}
 use Rattle.sshpacket.specs.declared.fault.PacketFault.{PacketFault}
 use Rattle.sshpacket.specs.declared.fault.PacketFault.TheVariants as packet
 use Rattle.sshpacket.specs.Parse.{OfPacket, Refusal, refused, unfinished, whole}
-use Rattle.sshpacket.specs.Places.{EachPlace, flat_places, stands}
+use Rattle.sshpacket.specs.Places.{EachPlace, after_first, flat_places, stands}
 use Rattle.sshpacket.specs.Stream.{Sent, Units}
-use Rattle.sshpacket.specs.Suite.{SuiteData}
+use Rattle.sshpacket.specs.Suite.{SuiteData, next_keys}
+use Rattle.sshpacket.specs.Written.{after_all}
 use Rattle.sshcore.specs.declared.end.Fault.{Fault}
 use Rattle.sshcore.specs.declared.input.Input.{Input}
 use Rattle.sshcore.specs.declared.table.Phase.{Phase}
@@ -94,7 +95,7 @@ pub clear_before : (m : SuiteData) (role : Side) (party : ConfigData) (units ans
     → (switched_out answers ≡ true → IsReady role party (payloads_in units)) → past_exchange p ≡ false → o.keys ≡ None
 clear_before m role party units answers p o exchange speaks keyed not_past = elim (cases_Bool (switched_out answers)) [
   | inl on ↦ absurd (true≢false (sym (keyed on).exchange ∙ exchange ∙ not_past))
-  | inr off ↦ speaks.keys ∙ clear_by (switched_out answers) (keys_at m role party (version_in units) (payloads_in units) role) off
+  | inr off ↦ speaks.keys ∙ clear_by (switched_out answers) (after_all m (keys_at m role party (version_in units) (payloads_in units) role) (after_first is_newkeys [] answers)) off
 ]
 
 clear_at : (setup : Setup) (version : List ℕ) (before : Units) (payload : List ℕ) (last : StateData)
@@ -120,6 +121,7 @@ module _ (setup : Setup) (kept : StateData) (i : Input) (h s : List ℕ) (is : k
   pub stands_left : (new : StateData) (reason : ℕ) → new.end ≡ Disconnected reason → EndpointStands setup new i h s
   stands_left new reason ends = record {
     units = a.units;
+    sizes = a.sizes;
     rest = a.rest;
     refusal = a.refusal;
     answers = a.answers;
@@ -144,30 +146,31 @@ module _ (below : Below) (streams : Streams) (setup : Setup) (kept : StateData) 
   none : a.refusal ≡ None
   none = none_refused setup a.units a.refusal a.received_end received_is a.history.replies.ends
 
-  pub open_history : History setup a.units a.rest None a.answers Open h s
-  open_history = subst (λ (r : Option Refusal). History setup a.units a.rest r a.answers Open h s) none
-      (subst (λ (e : EndData). History setup a.units a.rest a.refusal a.answers e h s) received_is a.history)
+  pub open_history : History setup a.units a.sizes a.rest None a.answers Open h s
+  open_history = subst (λ (r : Option Refusal). History setup a.units a.sizes a.rest r a.answers Open h s) none
+      (subst (λ (e : EndData). History setup a.units a.sizes a.rest a.refusal a.answers e h s) received_is a.history)
 
-  pub within : IsInside setup a.units a.answers a.rest kept i
+  pub within : IsInside setup a.units a.answers a.sizes a.rest kept i
   within = a.inside (inl is)
 
   -- more bytes of an unfinished unit
-  pub stands_part : (j : Input) (piece : List ℕ) → parsers setup.suite setup.role setup.config a.units (a.rest ++ piece) ≡ unfinished → IsInput setup.suite setup.role setup.config a.units (a.rest ++ piece) j
+  pub stands_part : (j : Input) (piece : List ℕ) → parsers setup.suite setup.role setup.config a.units a.sizes (a.rest ++ piece) ≡ unfinished → IsInput setup.suite setup.role setup.config a.units a.sizes (a.rest ++ piece) j
       → EndpointStands setup kept j (h ++ piece) s
   stands_part j piece e reads = record {
     units = a.units;
+    sizes = a.sizes;
     rest = a.rest ++ piece;
     refusal = None;
     answers = a.answers;
     received_end = Open;
-    history = history.part below streams setup a.units a.rest a.answers h s open_history piece e;
+    history = history.part below streams setup a.units a.sizes a.rest a.answers h s open_history piece e;
     ends = AsReceived is;
     inside = λ o. record { sits = within.sits; form = within.form; reads = reads; carries = within.carries; speaks = within.speaks };
   }
 
   -- the bytes are refused
   pub stands_refused : (new : StateData) (j : Input) (piece : List ℕ) (used : ℕ) (r : Refusal) (before after : List ℕ) (strict : Bool) (next : KeysData) → used ≤ length piece
-      → parsers setup.suite setup.role setup.config a.units (a.rest ++ piece) ≡ refused r (length a.rest + used) → Gives setup.suite setup.config.seed strict next kept new before after (fails (fault_of r))
+      → parsers setup.suite setup.role setup.config a.units a.sizes (a.rest ++ piece) ≡ refused r (length a.rest + used) → Gives setup.suite setup.config.seed strict next kept new before after (fails (fault_of r))
       → GoesOn setup new j h s (take used piece) before after
   stands_refused new j piece used r before after strict next low e gives =
       let sent = sent_quiet setup.suite setup.role setup.config a.units strict next a.answers (disconnect (fault_of r)) kept.sending (none_sent (disconnect (fault_of r)) (still_fails (fault_of r))) within.speaks in record {
@@ -175,11 +178,12 @@ module _ (below : Below) (streams : Streams) (setup : Setup) (kept : StateData) 
         appended = gives.output ∙ ap (λ (l : List ℕ). before ++ l) sent.0;
         stands = record {
           units = a.units;
+          sizes = a.sizes;
           rest = a.rest ++ take used piece;
           refusal = Some r;
           answers = a.answers ++ disconnect (fault_of r);
           received_end = Failed (fault_of r);
-          history = history.refusal below streams setup a.units a.rest a.answers h s open_history piece used r low e gives.fits;
+          history = history.refusal below streams setup a.units a.sizes a.rest a.answers h s open_history piece used r low e gives.fits;
           ends = AsReceived gives.ends;
           inside = λ o. absurd (failed_over (fault_of r) new.end gives.ends o);
         };
@@ -188,14 +192,17 @@ module _ (below : Below) (streams : Streams) (setup : Setup) (kept : StateData) 
 
   -- a packet, with its answers
   module _ (version : List ℕ) (before_units : Units) (units_are : a.units ≡ version ∷ before_units) (new last : StateData) (j : Input) (piece payload : List ℕ) (used packet : ℕ) (before after : List ℕ)
-      (low : used ≤ length piece) (read : parsers setup.suite setup.role setup.config a.units (a.rest ++ piece) ≡ whole payload (length a.rest + used))
+      (low : used ≤ length piece) (read : parsers setup.suite setup.role setup.config a.units a.sizes (a.rest ++ piece) ≡ whole payload (length a.rest + used))
       (number : packet ≡ number_in setup.role setup.config before_units)
       (brings : Brings setup kept new packet payload before after)
       (same_end : last.end ≡ new.end) (same_phase : last.phase ≡ new.phase) (same_guess : last.guess ≡ new.guess) (same_known : last.known ≡ new.known) (same_sending : last.sending ≡ new.sending)
       (left : last.carried ≡ record new.carried { pending = keys_left new.phase new.carried.pending })
-      (reads : keys_in setup.suite setup.role setup.config version (before_units ++ payload ∷ []) ≡ keys_with (keys_due new.phase new.carried.pending) (keys_in setup.suite setup.role setup.config version before_units)
+      (reads : keys_in setup.suite setup.role setup.config version (before_units ++ payload ∷ []) (a.sizes ++ (length a.rest + used) ∷ []) ≡ keys_with (keys_due new.phase new.carried.pending) (next_keys setup.suite (keys_in setup.suite setup.role setup.config version before_units a.sizes) (length a.rest + used))
       → number_in setup.role setup.config (before_units ++ payload ∷ []) ≡ number_with (keys_due new.phase new.carried.pending) new.known.strict (number_in setup.role setup.config before_units)
-      → IsInput setup.suite setup.role setup.config (a.units ++ payload ∷ []) [] j) where
+      → IsInput setup.suite setup.role setup.config (a.units ++ payload ∷ []) (a.sizes ++ (length a.rest + used) ∷ []) [] j) where
+    abbrev size : ℕ
+    size = length a.rest + used
+
     abbrev more : Units
     more = answers_at setup a.units payload
 
@@ -221,9 +228,9 @@ module _ (below : Below) (streams : Streams) (setup : Setup) (kept : StateData) 
     units_after_is : units_after ≡ version ∷ (before_units ++ payload ∷ [])
     units_after_is = ap (λ (us : Units). us ++ payload ∷ []) units_are
 
-    done : History setup units_after [] None (a.answers ++ more) (end_at setup a.units payload) (h ++ take used piece)
+    done : History setup units_after (a.sizes ++ size ∷ []) [] None (a.answers ++ more) (end_at setup a.units payload) (h ++ take used piece)
         (s ++ flat_places (spells setup.suite setup.role setup.config units_after) (setup.config.version ∷ a.answers) more)
-    done = history.unit below streams setup a.units a.rest a.answers h s open_history piece payload used low read (subst (λ (us : Units). AllFit us) answers_are brings.gives.fits)
+    done = history.unit below streams setup a.units a.sizes a.rest a.answers h s open_history piece payload used low read (subst (λ (us : Units). AllFit us) answers_are brings.gives.fits)
 
     speaks_on : Speaks setup.suite setup.role setup.config units_after a.answers kept.sending
     speaks_on = speaks_received setup.suite setup.role setup.config a.units (payload ∷ []) a.answers kept.sending a.history.keyed within.speaks
@@ -233,7 +240,7 @@ module _ (below : Below) (streams : Streams) (setup : Setup) (kept : StateData) 
 
     abbrev Spoken : Type 0
     Spoken = (sent_from setup.suite setup.config.seed kept.known.strict next kept.sending more ≡ flat_places (spells setup.suite setup.role setup.config units_after) (setup.config.version ∷ a.answers) more)
-        × Speaks setup.suite setup.role setup.config units_after (a.answers ++ more) (sending_from kept.known.strict next kept.sending more)
+        × Speaks setup.suite setup.role setup.config units_after (a.answers ++ more) (sending_from setup.suite kept.known.strict next kept.sending more)
 
     told : switched_out more ≡ true → IsExchangePlace setup.role setup.config before_units payload kept.phase
     told on = told_at below setup version before_units payload kept.phase sits.tied (ap switched_out (ap (λ (us : Units). answers_at setup us payload) (sym units_are)) ∙ on)
@@ -260,18 +267,18 @@ module _ (below : Below) (streams : Streams) (setup : Setup) (kept : StateData) 
     end_new : last.end ≡ end_at setup a.units payload
     end_new = same_end ∙ brings.gives.ends ∙ end_is
 
-    inside_new : IsOngoing last.end → IsInside setup units_after (a.answers ++ more) [] last j
+    inside_new : IsOngoing last.end → IsInside setup units_after (a.answers ++ more) (a.sizes ++ size ∷ []) [] last j
     inside_new ongoing =
         let moves = brings.moves (subst IsOngoing same_end ongoing) in
-        let s1 : Sits setup version (before_units ++ payload ∷ []) new.phase new.guess new.known = sits_after below setup version before_units payload kept new sits moves in
+        let s1 : Sits setup version (before_units ++ payload ∷ []) new.phase new.guess new.known = sits_after below setup version before_units a.sizes payload size kept new sits moves in
         let s2 : Sits setup version (before_units ++ payload ∷ []) last.phase last.guess last.known =
         subst (λ (k : Known). Sits setup version (before_units ++ payload ∷ []) last.phase last.guess k) (sym same_known)
         (subst (λ (g : Bool). Sits setup version (before_units ++ payload ∷ []) last.phase g new.known) (sym same_guess)
         (subst (λ (p : Phase). Sits setup version (before_units ++ payload ∷ []) p new.guess new.known) (sym same_phase) s1)) in
         let carried : IsCarried setup version before_units kept.phase kept.carried =
         subst (λ (us : Units). IsCarried setup (version_in us) (payloads_in us) kept.phase kept.carried) units_are within.carries in
-        let t = turned below setup version before_units payload kept new sits carried.pending moves in
-        let on = carries_on below setup version before_units payload kept new sits carried moves in
+        let t = turned below setup version before_units a.sizes payload size kept new sits carried.pending moves in
+        let on = carries_on below setup version before_units a.sizes payload size kept new sits carried moves in
         let carries : IsCarried setup version (before_units ++ payload ∷ []) last.phase last.carried = record {
           pending = ap (λ (x : Carried). x.pending) left ∙ t.left ∙ ap (λ (p : Phase). pending_at p (keys_at setup.suite setup.role setup.config version (before_units ++ payload ∷ []) (other setup.role))) (sym same_phase);
           own_version = λ past. ap (λ (x : Carried). x.own_version) left ∙ on.own_version (ap past_exchange (sym same_phase) ∙ past);
@@ -280,11 +287,11 @@ module _ (below : Below) (streams : Streams) (setup : Setup) (kept : StateData) 
         } in
         let speaks : Speaks setup.suite setup.role setup.config units_after (a.answers ++ more) last.sending =
         subst (λ (o : Sending). Speaks setup.suite setup.role setup.config units_after (a.answers ++ more) o)
-        (sym (same_sending ∙ brings.gives.sends ∙ ap (λ (us : Units). sending_from kept.known.strict next kept.sending us) answers_are)) spoken.1 in
+        (sym (same_sending ∙ brings.gives.sends ∙ ap (λ (us : Units). sending_from setup.suite kept.known.strict next kept.sending us) answers_are)) spoken.1 in
         record {
           sits = subst (λ (us : Units). Sits setup (version_in us) (payloads_in us) last.phase last.guess last.known) (sym units_after_is) s2;
           form = record {
-            form = λ past. form_new (form_after below setup version before_units payload kept new sits carried.pending within.form.form moves) past;
+            form = λ past. form_new (form_after below setup version before_units a.sizes payload size kept new sits carried.pending within.form.form moves) past;
             clear = λ not_past. clear_at setup version before_units payload last s2 units_after_is (a.answers ++ more) speaks done.keyed not_past;
           };
           reads = reads t.keys t.number;
@@ -302,6 +309,7 @@ module _ (below : Below) (streams : Streams) (setup : Setup) (kept : StateData) 
       appended = brings.gives.output ∙ ap (λ (us : Units). before ++ sent_from setup.suite setup.config.seed kept.known.strict next kept.sending us) answers_are ∙ ap (λ (l : List ℕ). before ++ l) spoken.0;
       stands = record {
         units = units_after;
+        sizes = a.sizes ++ size ∷ [];
         rest = [];
         refusal = None;
         answers = a.answers ++ more;

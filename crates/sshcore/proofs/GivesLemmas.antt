@@ -30,21 +30,21 @@ quiet_init m party kex = ap (λ (n : ℕ). n == 21) (init_kind (m.share_form kex
 
 module _ (m : SuiteData) (seed : List ℕ) (strict : Bool) (next : KeysData) where
   -- nothing is sent, and no packet is counted
-  sent_none : (o : Sending) → (sent_from m seed strict next o [] ≡ []) × (sending_from strict next o [] ≡ o)
+  sent_none : (o : Sending) → (sent_from m seed strict next o [] ≡ []) × (sending_from m strict next o [] ≡ o)
   unfolding sent_from sending_from
   sent_none o = (refl, refl)
 
   -- what is sent after others goes on from them
   pub sent_then : (o : Sending) (xs ys : Units)
-      → (sent_from m seed strict next o (xs ++ ys) ≡ sent_from m seed strict next o xs ++ sent_from m seed strict next (sending_from strict next o xs) ys)
-      × (sending_from strict next o (xs ++ ys) ≡ sending_from strict next (sending_from strict next o xs) ys)
+      → (sent_from m seed strict next o (xs ++ ys) ≡ sent_from m seed strict next o xs ++ sent_from m seed strict next (sending_from m strict next o xs) ys)
+      × (sending_from m strict next o (xs ++ ys) ≡ sending_from m strict next (sending_from m strict next o xs) ys)
   unfolding sent_from sending_from
   sent_then o [] ys = (refl, refl)
   sent_then o (x ∷ xs) ys =
-      let rest = sent_then (after_sending strict next o x) xs ys in (
+      let rest = sent_then (after_sending m strict next o x) xs ys in (
         ap (λ (l : List ℕ). spelled_by m o.keys seed o.number x ++ l) rest.0
-            ∙ sym (append_assoc (spelled_by m o.keys seed o.number x) (sent_from m seed strict next (after_sending strict next o x) xs)
-            (sent_from m seed strict next (sending_from strict next (after_sending strict next o x) xs) ys)),
+            ∙ sym (append_assoc (spelled_by m o.keys seed o.number x) (sent_from m seed strict next (after_sending m strict next o x) xs)
+            (sent_from m seed strict next (sending_from m strict next (after_sending m strict next o x) xs) ys)),
         rest.1,
       )
 
@@ -60,14 +60,14 @@ module _ (m : SuiteData) (seed : List ℕ) (strict : Bool) (next : KeysData) whe
 
   -- one answer that was made and sent, which is no NEWKEYS
   pub gives_one : (old new : StateData) (before after payload made bytes : List ℕ) (end : EndData) → (kind payload == 21) ≡ false → IsMade payload made → bytes ≡ made → old.end ≡ end
-      → after ≡ before ++ spelled_by m old.sending.keys seed old.sending.number bytes → new ≡ record old { sending = with_packet old.sending }
+      → after ≡ before ++ spelled_by m old.sending.keys seed old.sending.number bytes → new ≡ record old { sending = with_packet m bytes old.sending }
       → Gives m seed strict next old new before after (record { answers = payload ∷ []; end = end })
   gives_one old new before after payload made bytes end quiet is same ends output keeps =
       let one = sent_one m seed strict next old.sending payload quiet in
       record {
         ends = ap (λ (k : StateData). k.end) keeps ∙ ends;
         output = output ∙ ap (λ (l : List ℕ). before ++ spelled_by m old.sending.keys seed old.sending.number l) (same ∙ is.same) ∙ ap (λ (l : List ℕ). before ++ l) (sym one.0);
-        sends = ap (λ (k : StateData). k.sending) keeps ∙ sym one.1;
+        sends = ap (λ (k : StateData). k.sending) keeps ∙ ap (λ (l : List ℕ). with_packet m l old.sending) (same ∙ is.same) ∙ sym one.1;
         fits = (subst FitsPacket is.same is.fits, tt);
       }
 
@@ -82,9 +82,9 @@ module _ (m : SuiteData) (seed : List ℕ) (strict : Bool) (next : KeysData) whe
         ends = b.ends;
         output = b.output ∙ ap (λ (l : List ℕ). l ++ sent_from m seed strict next mid.sending ys) a.output
             ∙ ap (λ (p : Sending). (before ++ sent_from m seed strict next old.sending xs) ++ sent_from m seed strict next p ys) a.sends
-            ∙ append_assoc before (sent_from m seed strict next old.sending xs) (sent_from m seed strict next (sending_from strict next old.sending xs) ys)
+            ∙ append_assoc before (sent_from m seed strict next old.sending xs) (sent_from m seed strict next (sending_from m strict next old.sending xs) ys)
             ∙ ap (λ (l : List ℕ). before ++ l) (sym both.0);
-        sends = b.sends ∙ ap (λ (p : Sending). sending_from strict next p ys) a.sends ∙ sym both.1;
+        sends = b.sends ∙ ap (λ (p : Sending). sending_from m strict next p ys) a.sends ∙ sym both.1;
         fits = fit_both xs ys a.fits b.fits;
       }
 
@@ -115,7 +115,7 @@ module _ (m : SuiteData) (seed : List ℕ) (strict : Bool) (next : KeysData) whe
   gives_moved old new other_old other_new before after answers end other_end a b e g = record {
     ends = e;
     output = g.output ∙ ap (λ (p : Sending). before ++ sent_from m seed strict next p answers) (sym a);
-    sends = b ∙ g.sends ∙ ap (λ (p : Sending). sending_from strict next p answers) (sym a);
+    sends = b ∙ g.sends ∙ ap (λ (p : Sending). sending_from m strict next p answers) (sym a);
     fits = g.fits;
   }
 

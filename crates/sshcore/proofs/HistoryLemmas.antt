@@ -8,7 +8,7 @@ use Rattle.sshpacket.specs.Parse.{ProtectionData, Refusal, parse_packet, refused
 use Rattle.sshpacket.specs.Places.{EachPlace, IsPrefix, flat_places}
 use Rattle.sshwire.specs.declared.line_form.LineForm.{LineForm}
 use Rattle.sshpacket.specs.PreambleParser.{preamble_parser_by}
-use Rattle.sshpacket.specs.Stream.{IsIncremental, Parser, Read, Received, Same, Sent, Units}
+use Rattle.sshpacket.specs.Stream.{IsIncremental, Parsers, Read, Received, Same, Sent, Units}
 use Rattle.sshpacket.specs.Suite.{SuiteData}
 use Rattle.sshpacket.proofs.Places.{each-append, each-push, flat-push}
 use Rattle.sshcore.specs.declared.end.Fault.{Fault}
@@ -29,19 +29,20 @@ use Rattle.sshcore.proofs.StrictLaws.{begun_none, stands}
 pub record Streams : Type 0 where
   pub packets : (w : ProtectionData) → IsIncremental (parse_packet w)
   pub lines : (form : LineForm) (k : ℕ) → IsIncremental (preamble_parser_by form k)
-  pub nothing : (parsers : Units → Parser) → ((us : Units) → IsIncremental (parsers us)) → Received parsers [] [] [] None
-  pub unit : (parsers : Units → Parser) → ((us : Units) → IsIncremental (parsers us)) → (stream piece : List ℕ) (us : Units) (rest u : List ℕ) (used : ℕ)
-      → Received parsers stream us rest None → used ≤ length piece → parsers us (rest ++ piece) ≡ whole u (length rest + used) → Received parsers (stream ++ take used piece) (us ++ u ∷ []) [] None
-  pub refusal : (parsers : Units → Parser) → ((us : Units) → IsIncremental (parsers us)) → (stream piece : List ℕ) (us : Units) (rest : List ℕ) (r : Refusal) (used : ℕ)
-      → Received parsers stream us rest None → used ≤ length piece → parsers us (rest ++ piece) ≡ refused r (length rest + used) → Received parsers (stream ++ take used piece) us (rest ++ take used piece) (Some r)
-  pub part : (parsers : Units → Parser) → ((us : Units) → IsIncremental (parsers us)) → (stream piece : List ℕ) (us : Units) (rest : List ℕ)
-      → Received parsers stream us rest None → parsers us (rest ++ piece) ≡ unfinished → Received parsers (stream ++ piece) us (rest ++ piece) None
-  pub one : (parsers : Units → Parser) (stream : List ℕ) (us vs : Units) (x y : List ℕ) (r q : Option Refusal)
-      → Received parsers stream us x r → Received parsers stream vs y q → Same us vs x y r q
-  pub front : (parsers : Units → Parser) → ((us : Units) → IsIncremental (parsers us)) → (stream more : List ℕ) (us vs : Units) (x y : List ℕ) (r q : Option Refusal)
-      → Received parsers stream us x r → Received parsers (stream ++ more) vs y q → IsPrefix us vs
-  pub more : (parsers : Units → Parser) → ((us : Units) → IsIncremental (parsers us)) → (before : Units) (bytes more : List ℕ) (us : Units) (rest : List ℕ)
-      → Read parsers before bytes us rest → Read parsers before (bytes ++ more) us (rest ++ more)
+  pub nothing : (parsers : Parsers) → ((us : Units) (ns : List ℕ) → IsIncremental (parsers us ns)) → Received parsers [] [] [] [] None
+  pub unit : (parsers : Parsers) → ((us : Units) (ns : List ℕ) → IsIncremental (parsers us ns)) → (stream piece : List ℕ) (us : Units) (ns rest u : List ℕ) (used : ℕ)
+      → Received parsers stream us ns rest None → used ≤ length piece → parsers us ns (rest ++ piece) ≡ whole u (length rest + used)
+      → Received parsers (stream ++ take used piece) (us ++ u ∷ []) (ns ++ (length rest + used) ∷ []) [] None
+  pub refusal : (parsers : Parsers) → ((us : Units) (ns : List ℕ) → IsIncremental (parsers us ns)) → (stream piece : List ℕ) (us : Units) (ns rest : List ℕ) (r : Refusal) (used : ℕ)
+      → Received parsers stream us ns rest None → used ≤ length piece → parsers us ns (rest ++ piece) ≡ refused r (length rest + used) → Received parsers (stream ++ take used piece) us ns (rest ++ take used piece) (Some r)
+  pub part : (parsers : Parsers) → ((us : Units) (ns : List ℕ) → IsIncremental (parsers us ns)) → (stream piece : List ℕ) (us : Units) (ns rest : List ℕ)
+      → Received parsers stream us ns rest None → parsers us ns (rest ++ piece) ≡ unfinished → Received parsers (stream ++ piece) us ns (rest ++ piece) None
+  pub one : (parsers : Parsers) (stream : List ℕ) (us vs : Units) (ns ms x y : List ℕ) (r q : Option Refusal)
+      → Received parsers stream us ns x r → Received parsers stream vs ms y q → Same us vs x y r q
+  pub front : (parsers : Parsers) → ((us : Units) (ns : List ℕ) → IsIncremental (parsers us ns)) → (stream more : List ℕ) (us vs : Units) (ns ms x y : List ℕ) (r q : Option Refusal)
+      → Received parsers stream us ns x r → Received parsers (stream ++ more) vs ms y q → IsPrefix us vs
+  pub more : (parsers : Parsers) → ((us : Units) (ns : List ℕ) → IsIncremental (parsers us ns)) → (before : Units) (passed bytes more : List ℕ) (us : Units) (ns rest : List ℕ)
+      → Read parsers before passed bytes us ns rest → Read parsers before passed (bytes ++ more) us ns (rest ++ more)
   pub sent : (spells : Units → List ℕ → List ℕ) (stream : List ℕ) (us more : Units) → Sent spells stream us → Sent spells (stream ++ flat_places spells us more) (us ++ more)
 
 fit_anywhere : (b c us : Units) → EachPlace (λ before payload. FitsPacket payload) b us → EachPlace (λ before payload. FitsPacket payload) c us
@@ -66,9 +67,9 @@ is_open (Closed reason) = inr (λ e. absurd cc)
 is_open (Disconnected reason) = inr (λ e. absurd cc)
 
 module _ (streams : Streams) (m : SuiteData) (role : Side) (party : ConfigData) where
-  pub each : (us : Units) → IsIncremental (parsers m role party us)
-  each [] = streams.lines (form_of party.reading role) (others_of role)
-  each (version ∷ before) = streams.packets (protection_in m role party version before)
+  pub each : (us : Units) (ns : List ℕ) → IsIncremental (parsers m role party us ns)
+  each [] ns = streams.lines (form_of party.reading role) (others_of role)
+  each (version ∷ before) ns = streams.packets (protection_in m role party version before ns)
 
 module _ (below : Below) (streams : Streams) (setup : Setup) where
   open_stays : (units : Units) (r : Option Refusal) (end : EndData) → end ≡ Open → Ends setup units r end → StaysOpen setup units
@@ -77,7 +78,7 @@ module _ (below : Below) (streams : Streams) (setup : Setup) where
 
   -- before any byte
   pub begins : AllFit (making setup.suite setup.role setup.config)
-      → History setup [] [] None (making setup.suite setup.role setup.config) Open [] (flat_places (spells setup.suite setup.role setup.config []) [] (setup.config.version ∷ making setup.suite setup.role setup.config))
+      → History setup [] [] [] None (making setup.suite setup.role setup.config) Open [] (flat_places (spells setup.suite setup.role setup.config []) [] (setup.config.version ∷ making setup.suite setup.role setup.config))
   begins fit = record {
     received = streams.nothing (parsers setup.suite setup.role setup.config) (each streams setup.suite setup.role setup.config);
     sent = record { spelled = refl };
@@ -95,7 +96,7 @@ module _ (below : Below) (streams : Streams) (setup : Setup) where
       let f = stands below setup version [] before phase.KexInit (begun_none below setup) stays.1 in
       keyed below setup version before u f.0 f.1.tied on
 
-  module _ (units : Units) (rest : List ℕ) (answers : Units) (h s : List ℕ) (a : History setup units rest None answers Open h s) where
+  module _ (units : Units) (sizes rest : List ℕ) (answers : Units) (h s : List ℕ) (a : History setup units sizes rest None answers Open h s) where
     all_open : StaysOpen setup units
     all_open = open_stays units None Open refl a.replies.ends
 
@@ -103,9 +104,9 @@ module _ (below : Below) (streams : Streams) (setup : Setup) where
     in_order = a.replies.in_order ∙ ap (λ (l : Units). making setup.suite setup.role setup.config ++ l) (append-nil (flat_places (answers_at setup) [] units))
 
     -- more bytes of an unfinished unit
-    pub part : (piece : List ℕ) → parsers setup.suite setup.role setup.config units (rest ++ piece) ≡ unfinished → History setup units (rest ++ piece) None answers Open (h ++ piece) s
+    pub part : (piece : List ℕ) → parsers setup.suite setup.role setup.config units sizes (rest ++ piece) ≡ unfinished → History setup units sizes (rest ++ piece) None answers Open (h ++ piece) s
     part piece e = record {
-      received = streams.part (parsers setup.suite setup.role setup.config) (each streams setup.suite setup.role setup.config) h piece units rest a.received e;
+      received = streams.part (parsers setup.suite setup.role setup.config) (each streams setup.suite setup.role setup.config) h piece units sizes rest a.received e;
       sent = a.sent;
       replies = record { in_order = a.replies.in_order; ends = goes_on all_open refl };
       fits = a.fits;
@@ -114,11 +115,11 @@ module _ (below : Below) (streams : Streams) (setup : Setup) where
     }
 
     -- the bytes are refused
-    pub refusal : (piece : List ℕ) (used : ℕ) (r : Refusal) → used ≤ length piece → parsers setup.suite setup.role setup.config units (rest ++ piece) ≡ refused r (length rest + used) → AllFit (disconnect (fault_of r))
-        → History setup units (rest ++ take used piece) (Some r) (answers ++ disconnect (fault_of r)) (Failed (fault_of r)) (h ++ take used piece)
+    pub refusal : (piece : List ℕ) (used : ℕ) (r : Refusal) → used ≤ length piece → parsers setup.suite setup.role setup.config units sizes (rest ++ piece) ≡ refused r (length rest + used) → AllFit (disconnect (fault_of r))
+        → History setup units sizes (rest ++ take used piece) (Some r) (answers ++ disconnect (fault_of r)) (Failed (fault_of r)) (h ++ take used piece)
         (s ++ flat_places (spells setup.suite setup.role setup.config units) (setup.config.version ∷ answers) (disconnect (fault_of r)))
     refusal piece used r low e fit = record {
-      received = streams.refusal (parsers setup.suite setup.role setup.config) (each streams setup.suite setup.role setup.config) h piece units rest r used a.received low e;
+      received = streams.refusal (parsers setup.suite setup.role setup.config) (each streams setup.suite setup.role setup.config) h piece units sizes rest r used a.received low e;
       sent = streams.sent (spells setup.suite setup.role setup.config units) s (setup.config.version ∷ answers) (disconnect (fault_of r)) a.sent;
       replies = record {
         in_order = ap (λ (l : Units). l ++ disconnect (fault_of r)) in_order ∙ append_assoc (making setup.suite setup.role setup.config) (flat_places (answers_at setup) [] units) (disconnect (fault_of r));
@@ -148,13 +149,13 @@ module _ (below : Below) (streams : Streams) (setup : Setup) where
         pushed (inr shut) = ended units u refl all_open refl shut refl
 
     -- a whole unit, with its answers
-    pub unit : (piece u : List ℕ) (used : ℕ) → used ≤ length piece → parsers setup.suite setup.role setup.config units (rest ++ piece) ≡ whole u (length rest + used) → AllFit (answers_at setup units u)
-        → History setup (units ++ u ∷ []) [] None (answers ++ answers_at setup units u) (end_at setup units u) (h ++ take used piece)
+    pub unit : (piece u : List ℕ) (used : ℕ) → used ≤ length piece → parsers setup.suite setup.role setup.config units sizes (rest ++ piece) ≡ whole u (length rest + used) → AllFit (answers_at setup units u)
+        → History setup (units ++ u ∷ []) (sizes ++ (length rest + used) ∷ []) [] None (answers ++ answers_at setup units u) (end_at setup units u) (h ++ take used piece)
         (s ++ flat_places (spells setup.suite setup.role setup.config (units ++ u ∷ [])) (setup.config.version ∷ answers) (answers_at setup units u))
     unit piece u used low e fit =
         let more = answers_at setup units u in
         record {
-          received = streams.unit (parsers setup.suite setup.role setup.config) (each streams setup.suite setup.role setup.config) h piece units rest u used a.received low e;
+          received = streams.unit (parsers setup.suite setup.role setup.config) (each streams setup.suite setup.role setup.config) h piece units sizes rest u used a.received low e;
           sent = streams.sent (spells setup.suite setup.role setup.config (units ++ u ∷ [])) s (setup.config.version ∷ answers) more (sent_stays setup.suite setup.role setup.config units (u ∷ []) answers s a.keyed a.sent);
           replies = replies_after u;
           fits = fit_both answers more a.fits fit;
@@ -167,28 +168,30 @@ module _ (below : Below) (streams : Streams) (setup : Setup) where
         keyed_by false e on = keyed_unit units u all_open (sym (switched_append answers (answers_at setup units u) ∙ rw e refl) ∙ on)
 
     -- memory runs out while the answers to a unit are sent
-    pub breaks : (piece u : List ℕ) (used : ℕ) (some : Units) → used ≤ length piece → parsers setup.suite setup.role setup.config units (rest ++ piece) ≡ whole u (length rest + used) → IsPrefix some (answers_at setup units u)
+    pub breaks : (piece u : List ℕ) (used : ℕ) (some : Units) → used ≤ length piece → parsers setup.suite setup.role setup.config units sizes (rest ++ piece) ≡ whole u (length rest + used) → IsPrefix some (answers_at setup units u)
         → BrokenOff setup (h ++ take used piece) (s ++ flat_places (spells setup.suite setup.role setup.config (units ++ u ∷ [])) (setup.config.version ∷ answers) some)
     breaks piece u used some low e prefix =
         let more = answers_at setup units u in
         record {
           units = units ++ u ∷ [];
+          sizes = sizes ++ (length rest + used) ∷ [];
           rest = [];
           refusal = None;
           answers = answers ++ more;
           end = end_at setup units u;
           some_answers = answers ++ some;
-          received = streams.unit (parsers setup.suite setup.role setup.config) (each streams setup.suite setup.role setup.config) h piece units rest u used a.received low e;
+          received = streams.unit (parsers setup.suite setup.role setup.config) (each streams setup.suite setup.role setup.config) h piece units sizes rest u used a.received low e;
           replies = replies_after u;
           prefix = record { rest = prefix.rest; whole_is = ap (λ (l : Units). answers ++ l) prefix.whole_is ∙ sym (append_assoc answers some prefix.rest) };
           sent = streams.sent (spells setup.suite setup.role setup.config (units ++ u ∷ [])) s (setup.config.version ∷ answers) some (sent_stays setup.suite setup.role setup.config units (u ∷ []) answers s a.keyed a.sent);
         }
 
 -- and before any of them
-pub broken : (setup : Setup) (units : Units) (rest : List ℕ) (refusal : Option Refusal) (answers : Units) (end : EndData) (h s : List ℕ)
-    → History setup units rest refusal answers end h s → BrokenOff setup h s
-broken setup units rest refusal answers end h s a = record {
+pub broken : (setup : Setup) (units : Units) (sizes rest : List ℕ) (refusal : Option Refusal) (answers : Units) (end : EndData) (h s : List ℕ)
+    → History setup units sizes rest refusal answers end h s → BrokenOff setup h s
+broken setup units sizes rest refusal answers end h s a = record {
   units = units;
+  sizes = sizes;
   rest = rest;
   refusal = refusal;
   answers = answers;

@@ -4,7 +4,7 @@ use Rattle.std.proofs.Common.{◌≡◌, ◌≢◌, ◌⊎◌, inl, inr, ℕ, �
 use Rattle.std.proofs.lemmas.List.{append-nil, length-append}
 use Rattle.sshpacket.specs.Parse.{Refusal, refused, unfinished}
 use Rattle.sshpacket.specs.Places.{IsPrefix}
-use Rattle.sshpacket.specs.Stream.{IsIncremental, IsRest, Parser, Read, Units}
+use Rattle.sshpacket.specs.Stream.{IsIncremental, IsRest, Parsers, Read, Units}
 use Rattle.sshpacket.proofs.Places.{each-after, each-prefix, prefix-cons}
 use Rattle.sshcore.specs.Directions.{parsers}
 use Rattle.sshcore.specs.EndData.{EndData, Open}
@@ -48,34 +48,47 @@ before_last (x ∷ b) (y ∷ c) l u w ws e =
     let first : x ≡ y = cc in
     subst (λ (v : List ℕ). IsPrefix (y ∷ (c ++ u ∷ [])) (v ∷ b)) (sym first) (prefix-cons y (c ++ u ∷ []) b (before_last b c l u w ws cc))
 
-module _ (parsers : Units → Parser) where
+module _ (parsers : Parsers) where
   -- of what was read, the units after the first ones
-  pub read_after : (before : Units) (bytes : List ℕ) (us w : Units) (x y : List ℕ) → Read parsers before bytes us x → Read parsers before bytes (us ++ w) y → Read parsers (before ++ us) x w y
-  read_after before bytes [] w x y a b =
-      subst (λ (c : Units). Read parsers c x w y) (sym (append-nil before)) (subst (λ (z : List ℕ). Read parsers before z w y) a b)
-  read_after before bytes (u ∷ us) w x y (len, e, a) (n, f, b) =
+  pub read_after : (before : Units) (passed bytes : List ℕ) (us w : Units) (ns ms x y : List ℕ) → Read parsers before passed bytes us ns x → Read parsers before passed bytes (us ++ w) ms y
+      → (more : List ℕ) × (ms ≡ ns ++ more) × Read parsers (before ++ us) (passed ++ ns) x w more y
+  read_after before passed bytes [] w ns ms x y (s, a) b = (
+    ms,
+    ap (λ (z : List ℕ). z ++ ms) (sym s),
+    subst (λ (c : Units). Read parsers c (passed ++ ns) x w ms y) (sym (append-nil before))
+        (subst (λ (z : List ℕ). Read parsers before z x w ms y) (sym (ap (λ (z : List ℕ). passed ++ z) s ∙ append-nil passed)) (subst (λ (z : List ℕ). Read parsers before passed z w ms y) a b)),
+  )
+  read_after before passed bytes (u ∷ us) w ns ms x y (len, others, s, e, a) (n, more, t, f, b) =
       let size : n ≡ len = cc in
-      let after : Read parsers ((before ++ u ∷ []) ++ us) x w y
-      = read_after (before ++ u ∷ []) (drop len bytes) us w x y a (subst (λ (k : ℕ). Read parsers (before ++ u ∷ []) (drop k bytes) (us ++ w) y) size b) in
-      subst (λ (c : Units). Read parsers c x w y) (append_assoc before (u ∷ []) us) after
+      let after = read_after (before ++ u ∷ []) (passed ++ len ∷ []) (drop len bytes) us w others more x y a
+      (subst (λ (k : ℕ). Read parsers (before ++ u ∷ []) (passed ++ k ∷ []) (drop k bytes) (us ++ w) more y) size b) in (
+        after.0,
+        t ∙ ap (λ (k : ℕ). k ∷ more) size ∙ ap (λ (z : List ℕ). len ∷ z) after.1 ∙ ap (λ (z : List ℕ). z ++ after.0) (sym s),
+        subst (λ (c : Units). Read parsers c (passed ++ ns) x w after.0 y) (append_assoc before (u ∷ []) us)
+            (subst (λ (z : List ℕ). Read parsers ((before ++ u ∷ []) ++ us) z x w after.0 y) (append_assoc passed (len ∷ []) others ∙ ap (λ (z : List ℕ). passed ++ z) (sym s)) after.2),
+      )
 
-  module _ (each : (us : Units) → IsIncremental (parsers us)) where
+  module _ (each : (us : Units) (ns : List ℕ) → IsIncremental (parsers us ns)) where
     -- nothing is received after a refusal
-    none_refused : (us w : Units) (rest z y : List ℕ) (f : Refusal) (q : Option Refusal)
-        → parsers us rest ≡ refused f (length rest) → Read parsers us (rest ++ z) w y → IsRest (parsers (us ++ w)) y q → z ≡ []
-    none_refused us [] rest z y f None k a last =
-        let again : parsers us (rest ++ z) ≡ refused f (length rest) = (each us).more rest z (λ none. cc) ∙ k in
-        let here : parsers us y ≡ unfinished = subst (λ (b : Units). parsers b y ≡ unfinished) (append-nil us) last in
-        let same : parsers us (rest ++ z) ≡ parsers us y = ap (λ (l : List ℕ). parsers us l) a in
+    none_refused : (us w : Units) (ns ms rest z y : List ℕ) (f : Refusal) (q : Option Refusal)
+        → parsers us ns rest ≡ refused f (length rest) → Read parsers us ns (rest ++ z) w ms y → IsRest (parsers (us ++ w) (ns ++ ms)) y q → z ≡ []
+    none_refused us [] ns ms rest z y f None k (s, a) last =
+        let again : parsers us ns (rest ++ z) ≡ refused f (length rest) = (each us ns).more rest z (λ none. cc) ∙ k in
+        let here : parsers us ns y ≡ unfinished
+        = subst (λ (b : Units). parsers b ns y ≡ unfinished) (append-nil us)
+        (subst (λ (l : List ℕ). parsers (us ++ []) l y ≡ unfinished) (ap (λ (l : List ℕ). ns ++ l) s ∙ append-nil ns) last) in
+        let same : parsers us ns (rest ++ z) ≡ parsers us ns y = ap (λ (l : List ℕ). parsers us ns l) a in
         absurd cc
-    none_refused us [] rest z y f (Some g) k a last =
-        let again : parsers us (rest ++ z) ≡ refused f (length rest) = (each us).more rest z (λ none. cc) ∙ k in
-        let here : parsers us y ≡ refused g (length y) = subst (λ (b : Units). parsers b y ≡ refused g (length y)) (append-nil us) last in
-        let same : parsers us (rest ++ z) ≡ parsers us y = ap (λ (l : List ℕ). parsers us l) a in
+    none_refused us [] ns ms rest z y f (Some g) k (s, a) last =
+        let again : parsers us ns (rest ++ z) ≡ refused f (length rest) = (each us ns).more rest z (λ none. cc) ∙ k in
+        let here : parsers us ns y ≡ refused g (length y)
+        = subst (λ (b : Units). parsers b ns y ≡ refused g (length y)) (append-nil us)
+        (subst (λ (l : List ℕ). parsers (us ++ []) l y ≡ refused g (length y)) (ap (λ (l : List ℕ). ns ++ l) s ∙ append-nil ns) last) in
+        let same : parsers us ns (rest ++ z) ≡ parsers us ns y = ap (λ (l : List ℕ). parsers us ns l) a in
         let size : length y ≡ length rest = cc in
         none_longer rest z (ap length a ∙ size)
-    none_refused us (u ∷ w) rest z y f q k (len, e, a) last =
-        let again : parsers us (rest ++ z) ≡ refused f (length rest) = (each us).more rest z (λ none. cc) ∙ k in
+    none_refused us (u ∷ w) ns ms rest z y f q k (len, others, s, e, a) last =
+        let again : parsers us ns (rest ++ z) ≡ refused f (length rest) = (each us ns).more rest z (λ none. cc) ∙ k in
         absurd cc
 
 module _ (setup : Setup) where
@@ -97,68 +110,69 @@ module _ (setup : Setup) where
 
 module _ (streams : Streams) (setup : Setup) where
   -- an endpoint that isn't open uses no byte more
-  none_used : (units other_units : Units) (rest other_rest : List ℕ) (r other_r : Option Refusal) (answers other_answers : Units) (end other_end : EndData) (h z s t : List ℕ)
-      → History setup units rest r answers end h s → History setup other_units other_rest other_r other_answers other_end (h ++ z) t
+  none_used : (units other_units : Units) (sizes other_sizes rest other_rest : List ℕ) (r other_r : Option Refusal) (answers other_answers : Units) (end other_end : EndData) (h z s t : List ℕ)
+      → History setup units sizes rest r answers end h s → History setup other_units other_sizes other_rest other_r other_answers other_end (h ++ z) t
       → (end ≡ Open → z ≡ []) → z ≡ []
-  none_used units other_units rest other_rest r other_r answers other_answers end other_end h z s t a b all = by_ends a.replies.ends
+  none_used units other_units sizes other_sizes rest other_rest r other_r answers other_answers end other_end h z s t a b all = by_ends a.replies.ends
     where
       front : IsPrefix units other_units
-      front = streams.front (parsers setup.suite setup.role setup.config) (each streams setup.suite setup.role setup.config) h z units other_units rest other_rest r other_r a.received b.received
+      front = streams.front (parsers setup.suite setup.role setup.config) (each streams setup.suite setup.role setup.config) h z units other_units sizes other_sizes rest other_rest r other_r a.received b.received
 
-      after : Read (parsers setup.suite setup.role setup.config) units (rest ++ z) front.rest other_rest
-      after = read_after (parsers setup.suite setup.role setup.config) [] (h ++ z) units front.rest (rest ++ z) other_rest
-          (streams.more (parsers setup.suite setup.role setup.config) (each streams setup.suite setup.role setup.config) [] h z units rest a.received.read)
-          (subst (λ (us : Units). Read (parsers setup.suite setup.role setup.config) [] (h ++ z) us other_rest) front.whole_is b.received.read)
+      after : (more : List ℕ) × (other_sizes ≡ sizes ++ more) × Read (parsers setup.suite setup.role setup.config) units sizes (rest ++ z) front.rest more other_rest
+      after = read_after (parsers setup.suite setup.role setup.config) [] [] (h ++ z) units front.rest sizes other_sizes (rest ++ z) other_rest
+          (streams.more (parsers setup.suite setup.role setup.config) (each streams setup.suite setup.role setup.config) [] [] h z units sizes rest a.received.read)
+          (subst (λ (us : Units). Read (parsers setup.suite setup.role setup.config) [] [] (h ++ z) us other_sizes other_rest) front.whole_is b.received.read)
 
       by_refusal : (q : Option Refusal) → r ≡ q → end ≡ (refusal_reply q).end → z ≡ []
       by_refusal None is e = all e
       by_refusal (Some f) is e =
-          none_refused (parsers setup.suite setup.role setup.config) (each streams setup.suite setup.role setup.config) units front.rest rest z other_rest f other_r
-          (subst (λ (q : Option Refusal). IsRest (parsers setup.suite setup.role setup.config units) rest q) is a.received.then_rest)
-          after
-          (subst (λ (us : Units). IsRest (parsers setup.suite setup.role setup.config us) other_rest other_r) front.whole_is b.received.then_rest)
+          none_refused (parsers setup.suite setup.role setup.config) (each streams setup.suite setup.role setup.config) units front.rest sizes after.0 rest z other_rest f other_r
+          (subst (λ (q : Option Refusal). IsRest (parsers setup.suite setup.role setup.config units sizes) rest q) is a.received.then_rest)
+          after.2
+          (subst (λ (ns : List ℕ). IsRest (parsers setup.suite setup.role setup.config (units ++ front.rest) ns) other_rest other_r) after.1
+          (subst (λ (us : Units). IsRest (parsers setup.suite setup.role setup.config us other_sizes) other_rest other_r) front.whole_is b.received.then_rest))
 
       -- the unit that ended the endpoint is the last of both
-      by_last : (before : Units) (u : List ℕ) (w : Units) → units ≡ before ++ u ∷ [] → other_units ≡ units ++ w → Read (parsers setup.suite setup.role setup.config) units (rest ++ z) w other_rest
+      by_last : (before : Units) (u : List ℕ) (w : Units) → units ≡ before ++ u ∷ [] → other_units ≡ units ++ w → (more : List ℕ) → Read (parsers setup.suite setup.role setup.config) units sizes (rest ++ z) w more other_rest
           → end_at setup before u ≢ Open → rest ≡ [] → z ≡ []
-      by_last before u [] is are read shut none =
+      by_last before u [] is are more read shut none =
           let both = shut_after setup other_units before u other_r other_end b.replies.ends (are ∙ append-nil units ∙ is) shut in
-          let left : rest ++ z ≡ [] = read ∙ b.last both.0 both.1 in
+          let left : rest ++ z ≡ [] = read.1 ∙ b.last both.0 both.1 in
           ap (λ (l : List ℕ). l ++ z) (sym none) ∙ left
-      by_last before u (w ∷ ws) is are read shut none =
+      by_last before u (w ∷ ws) is are more read shut none =
           absurd (shut (open_within setup other_units before u w ws other_r other_end b.replies.ends
           (are ∙ ap (λ (us : Units). us ++ w ∷ ws) is ∙ append_assoc before (u ∷ []) (w ∷ ws))))
 
       by_ends : Ends setup units r end → z ≡ []
       by_ends (goes_on stays e) = by_refusal r refl e
       by_ends (ended before last is stays e shut none) =
-          by_last before last front.rest is front.whole_is after (λ o. shut (e ∙ o)) (a.last shut none)
+          by_last before last front.rest is front.whole_is after.0 after.2 (λ o. shut (e ∙ o)) (a.last shut none)
 
   -- the histories of two endpoints that were given one input, of which each uses a prefix, and all of it while it stands open
-  pub joined : (units other_units : Units) (rest other_rest : List ℕ) (r other_r : Option Refusal) (answers other_answers : Units) (end other_end : EndData) (h g s t x y : List ℕ)
-      → History setup units rest r answers end h s → History setup other_units other_rest other_r other_answers other_end g t
+  pub joined : (units other_units : Units) (sizes other_sizes rest other_rest : List ℕ) (r other_r : Option Refusal) (answers other_answers : Units) (end other_end : EndData) (h g s t x y : List ℕ)
+      → History setup units sizes rest r answers end h s → History setup other_units other_sizes other_rest other_r other_answers other_end g t
       → h ++ x ≡ g ++ y → (end ≡ Open → x ≡ []) → (other_end ≡ Open → y ≡ [])
       → (h ≡ g) × IsOneHistory units other_units rest other_rest r other_r answers other_answers end other_end s t
-  joined units other_units rest other_rest r other_r answers other_answers end other_end h g s t x y a b e all other_all = (same, one)
+  joined units other_units sizes other_sizes rest other_rest r other_r answers other_answers end other_end h g s t x y a b e all other_all = (same, one)
     where
       by_front : ((z : List ℕ) × (g ≡ h ++ z) × (x ≡ z ++ y)) ⊎ ((z : List ℕ) × (h ≡ g ++ z) × (y ≡ z ++ x)) → h ≡ g
       by_front (inl (z, is, left)) =
-          let none : z ≡ [] = none_used units other_units rest other_rest r other_r answers other_answers end other_end h z s t a
-          (subst (λ (l : List ℕ). History setup other_units other_rest other_r other_answers other_end l t) is b)
+          let none : z ≡ [] = none_used units other_units sizes other_sizes rest other_rest r other_r answers other_answers end other_end h z s t a
+          (subst (λ (l : List ℕ). History setup other_units other_sizes other_rest other_r other_answers other_end l t) is b)
           (λ o. none_front x z y left (all o)) in
           sym (is ∙ ap (λ (l : List ℕ). h ++ l) none ∙ append-nil h)
       by_front (inr (z, is, left)) =
-          let none : z ≡ [] = none_used other_units units other_rest rest other_r r other_answers answers other_end end g z t s b
-          (subst (λ (l : List ℕ). History setup units rest r answers end l s) is a)
+          let none : z ≡ [] = none_used other_units units other_sizes sizes other_rest rest other_r r other_answers answers other_end end g z t s b
+          (subst (λ (l : List ℕ). History setup units sizes rest r answers end l s) is a)
           (λ o. none_front y z x left (other_all o)) in
           is ∙ ap (λ (l : List ℕ). g ++ l) none ∙ append-nil g
 
       same : h ≡ g
       same = by_front (either_front h g x y e)
 
-      at_same : History setup other_units other_rest other_r other_answers other_end h t
-      at_same = subst (λ (l : List ℕ). History setup other_units other_rest other_r other_answers other_end l t) (sym same) b
+      at_same : History setup other_units other_sizes other_rest other_r other_answers other_end h t
+      at_same = subst (λ (l : List ℕ). History setup other_units other_sizes other_rest other_r other_answers other_end l t) (sym same) b
 
       one : IsOneHistory units other_units rest other_rest r other_r answers other_answers end other_end s t
-      one = one_by setup units other_units r other_r rest other_rest answers other_answers end other_end h s t
-          (streams.one (parsers setup.suite setup.role setup.config) h units other_units rest other_rest r other_r a.received at_same.received) a at_same
+      one = one_by setup units other_units r other_r sizes other_sizes rest other_rest answers other_answers end other_end h s t
+          (streams.one (parsers setup.suite setup.role setup.config) h units other_units sizes other_sizes rest other_rest r other_r a.received at_same.received) a at_same

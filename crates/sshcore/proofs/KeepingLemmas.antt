@@ -1,6 +1,6 @@
 -- What an endpoint keeps stays of use with its suite and its config.
 
-use Rattle.std.proofs.Common.{◌≡◌, ◌⊎◌, inl, inr, ℕ, zero, suc, ◌+◌, ◌-◌, ◌==◌, Bool, true, false, cond, List, [], ◌∷◌, ◌++◌, drop, length, None, refl, sym, ap, ◌∙◌, subst, arith}
+use Rattle.std.proofs.Common.{◌≡◌, ◌⊎◌, inl, inr, ℕ, zero, suc, ◌+◌, ◌-◌, ◌==◌, Bool, true, false, cond, List, [], ◌∷◌, ◌++◌, drop, length, Option, None, refl, sym, ap, ◌∙◌, subst, arith}
 use Rattle.std.specs.Prelude.{not}
 use Rattle.std.proofs.lemmas.Bool.{cases_Bool, eq-eqb, true≢false}
 use Rattle.std.proofs.lemmas.List.{drop-drop, length-drop}
@@ -28,7 +28,7 @@ use Rattle.sshcore.specs.EndpointParts.{ConfigData, Setup}
 use Rattle.sshcore.specs.Inputs.{Begins, CanRead}
 use Rattle.sshcore.specs.Keeping.{FitsConfig, IsRest, StillFits}
 use Rattle.sshcore.specs.Known.{Known}
-use Rattle.sshcore.specs.Output.{Sending, after_sending, sending_from}
+use Rattle.sshcore.specs.Output.{Sending, after_sending, keys_after, sending_from}
 use Rattle.sshcore.specs.Phases.{leaving, next_phase, past_exchange, past_kexinit}
 use Rattle.sshcore.specs.Plan.{asks, confirmed, is_answer, is_waiting, left_after_one, listed_in, next_after, next_listed, proving_name, unasked}
 use Rattle.sshcore.specs.Replies.{line_reply}
@@ -99,12 +99,14 @@ module _ (plan : List AttemptData) where
   rest_begun : IsRest plan plan
   rest_begun = record { from = 0; is = inl refl }
 
--- the keys that are sent with stay where no NEWKEYS is sent
-quiet_keys : (strict : Bool) (next : KeysData) (before us : Units) (o : Sending) → EachPlace (λ (b : Units) (a : List ℕ). (kind a == 21) ≡ false) before us → (sending_from strict next o us).keys ≡ o.keys
+-- what is sent in clear is so where no NEWKEYS is sent
+quiet_keys : (m : SuiteData) (strict : Bool) (next : KeysData) (before us : Units) (o : Sending) → o.keys ≡ None → EachPlace (λ (b : Units) (a : List ℕ). (kind a == 21) ≡ false) before us
+    → (sending_from m strict next o us).keys ≡ None
 unfolding sending_from
-quiet_keys strict next before [] o e = refl
-quiet_keys strict next before (a ∷ us) o (none, rest) =
-    quiet_keys strict next (before ++ a ∷ []) us (after_sending strict next o a) rest ∙ ap (λ (p : Sending). p.keys) (after_quiet strict next o a none)
+quiet_keys m strict next before [] o clear e = clear
+quiet_keys m strict next before (a ∷ us) o clear (none, rest) =
+    quiet_keys m strict next (before ++ a ∷ []) us (after_sending m strict next o a)
+    (ap (λ (p : Sending). p.keys) (after_quiet m strict next o a none) ∙ ap (λ (k : Option KeysData). keys_after m k a) clear) rest
 
 still_by : (b : Bool) → (b ≡ true → ⊥) → b ≡ false
 still_by true never = absurd (never refl)
@@ -187,7 +189,7 @@ module _ (below : Below) (setup : Setup) (payload : List ℕ) (old new : StateDa
           clear = λ not_past.
               let e = early moves not_past in
               ap (λ (o : Sending). o.keys) works.gives.sends
-              ∙ quiet_keys old.known.strict _ [] answers old.sending (none_sent answers (still_by (switched_out answers) e.1)) ∙ fits.form.clear e.0;
+              ∙ quiet_keys setup.suite old.known.strict _ [] answers old.sending (fits.form.clear e.0) (none_sent answers (still_by (switched_out answers) e.1));
         };
         rest = rest_after setup payload old new fits.rest moves;
       }
@@ -219,7 +221,7 @@ pub begun_fits : (m : SuiteData) (role : Side) (party : ConfigData) (new : State
     → Gives m party.seed strict next (begun party) new before after (goes (making m role party)) → FitsConfig m party new
 begun_fits m role party new before after strict next is gives =
     let keys : new.sending.keys ≡ None =
-    ap (λ (o : Sending). o.keys) gives.sends ∙ quiet_keys strict next [] (making m role party) (record { keys = None; number = 0 }) (none_sent (making m role party) (still_making m role party)) in
+    ap (λ (o : Sending). o.keys) gives.sends ∙ quiet_keys m strict next [] (making m role party) (record { keys = None; number = 0 }) refl (none_sent (making m role party) (still_making m role party)) in
     subst (λ (k : StateData). FitsConfig m party k) (sym is) (record {
       form = record { form = λ past. absurd (true≢false (sym past)); clear = λ not_past. keys };
       rest = rest_begun party.plan;

@@ -69,8 +69,8 @@ gives_nothing m seed strict next kept before = record { ends = refl; output = sy
 number_none : (role : Side) (party : ConfigData) → number_in role party [] ≡ 0
 number_none role party = rw ((tied_none role party.offer).newkeys) refl
 
-keys_none : (m : SuiteData) (role : Side) (party : ConfigData) (version : List ℕ) → keys_in m role party version [] ≡ None
-keys_none m role party version = rw ((tied_none role party.offer).newkeys) refl
+keys_none : (m : SuiteData) (role : Side) (party : ConfigData) (version sizes : List ℕ) → keys_in m role party version [] sizes ≡ None
+keys_none m role party version sizes = rw ((tied_none role party.offer).newkeys) refl
 
 -- where an endpoint stands that has received no line
 first_phase : (setup : Setup) (p : Phase) (g : Bool) (k : Known) → Sits setup [] [] p g k → p ≡ phase.KexInit
@@ -84,23 +84,23 @@ first_known setup p g k s = sym s.knows ∙ (standing.begins setup []).knows
 
 -- a version line is answered by nothing
 module _ (below : Below) (streams : Streams) (setup : Setup) (h s : List ℕ) where
-  at_first : (rest : List ℕ) (answers : Units) → History setup [] rest None answers Open h s → (piece version : List ℕ) (used : ℕ) → used ≤ length piece
-      → parsers setup.suite setup.role setup.config [] (rest ++ piece) ≡ whole version (length rest + used)
-      → History setup (version ∷ []) [] None (answers ++ []) Open (h ++ take used piece) (s ++ [])
-  at_first rest answers a piece version used low seen = history.unit below streams setup [] rest answers h s a piece version used low seen tt
+  at_first : (sizes rest : List ℕ) (answers : Units) → History setup [] sizes rest None answers Open h s → (piece version : List ℕ) (used : ℕ) → used ≤ length piece
+      → parsers setup.suite setup.role setup.config [] sizes (rest ++ piece) ≡ whole version (length rest + used)
+      → History setup (version ∷ []) (sizes ++ (length rest + used) ∷ []) [] None (answers ++ []) Open (h ++ take used piece) (s ++ [])
+  at_first sizes rest answers a piece version used low seen = history.unit below streams setup [] sizes rest answers h s a piece version used low seen tt
 
-  version_history : (units : Units) (rest : List ℕ) (answers : Units) → units ≡ [] → History setup units rest None answers Open h s → (piece version : List ℕ) (used : ℕ) → used ≤ length piece
-      → parsers setup.suite setup.role setup.config units (rest ++ piece) ≡ whole version (length rest + used)
-      → History setup (units ++ version ∷ []) [] None (answers ++ []) Open (h ++ take used piece) (s ++ [])
-  version_history [] rest answers none a piece version used low seen = at_first rest answers a piece version used low seen
-  version_history (u ∷ us) rest answers none a piece version used low seen = absurd cc
+  version_history : (units : Units) (sizes rest : List ℕ) (answers : Units) → units ≡ [] → History setup units sizes rest None answers Open h s → (piece version : List ℕ) (used : ℕ) → used ≤ length piece
+      → parsers setup.suite setup.role setup.config units sizes (rest ++ piece) ≡ whole version (length rest + used)
+      → History setup (units ++ version ∷ []) (sizes ++ (length rest + used) ∷ []) [] None (answers ++ []) Open (h ++ take used piece) (s ++ [])
+  version_history [] sizes rest answers none a piece version used low seen = at_first sizes rest answers a piece version used low seen
+  version_history (u ∷ us) sizes rest answers none a piece version used low seen = absurd cc
 
 module _ (laws : LineLaws) (below : Below) (streams : Streams) (setup : Setup) (kept : StateData) (i : Input) (h s : List ℕ) (is : kept.end ≡ Open) (a : EndpointStands setup kept i h s) (none : a.units ≡ []) where
   abbrev pub form : LineForm
   form = form_of setup.config.reading setup.role
 
-  lines_are : (bytes : List ℕ) → parsers setup.suite setup.role setup.config a.units bytes ≡ preamble_parser_by form (others_of setup.role) bytes
-  lines_are bytes = ap (λ (us : Units). parsers setup.suite setup.role setup.config us bytes) none
+  lines_are : (bytes : List ℕ) → parsers setup.suite setup.role setup.config a.units a.sizes bytes ≡ preamble_parser_by form (others_of setup.role) bytes
+  lines_are bytes = ap (λ (us : Units). parsers setup.suite setup.role setup.config us a.sizes bytes) none
 
   pub part_goes : (old new : PeerLineReaderData) (piece before : List ℕ) → StandsOpen (others_of setup.role) (a.rest ++ piece) new.state.progress → new.form ≡ form
       → GoesOn setup kept (input.Lines new) h s (take (length piece) piece) before before
@@ -118,7 +118,7 @@ module _ (laws : LineLaws) (below : Below) (streams : Streams) (setup : Setup) (
       → LineRefusedBy form (others_of setup.role) (a.rest ++ piece) place code
       → GoesOn setup (record kept { end = Failed fault.Version }) j h s (take used piece) before before
   refused_goes next j piece before used place code low at refusal =
-      let seen : parsers setup.suite setup.role setup.config a.units (a.rest ++ piece) ≡ refused (OfLine code) (length a.rest + used) =
+      let seen : parsers setup.suite setup.role setup.config a.units a.sizes (a.rest ++ piece) ≡ refused (OfLine code) (length a.rest + used) =
       lines_are (a.rest ++ piece) ∙ laws.only form (others_of setup.role) (a.rest ++ piece) (refused (OfLine code) (length a.rest + used)) (place, sym at, refusal) in
       stands_refused below streams setup kept i h s is a (record kept { end = Failed fault.Version }) j piece used (OfLine code) before before false next low seen
       (gives_nothing setup.suite setup.config.seed false next kept before)
@@ -130,7 +130,7 @@ module _ (laws : LineLaws) (below : Below) (streams : Streams) (setup : Setup) (
       let bytes : List ℕ = a.rest ++ take used piece in
       let all : bytes ++ drop used piece ≡ a.rest ++ piece = append_assoc a.rest (take used piece) (drop used piece) ∙ ap (λ (l : List ℕ). a.rest ++ l) (take-append-drop used piece) in
       let size : length bytes ≡ length a.rest + used = length-append a.rest (take used piece) ∙ ap (λ n. length a.rest + n) (length-take-le used piece low) in
-      let seen : parsers setup.suite setup.role setup.config a.units (a.rest ++ piece) ≡ whole version (length a.rest + used) =
+      let seen : parsers setup.suite setup.role setup.config a.units a.sizes (a.rest ++ piece) ≡ whole version (length a.rest + used) =
       lines_are (a.rest ++ piece) ∙ ap (λ (l : List ℕ). preamble_parser_by form (others_of setup.role) l) (sym all)
       ∙ laws.preamble form (others_of setup.role) version bytes (drop used piece) preamble ∙ ap (λ n. whole version n) size in
       let w = within below streams setup kept i h s is a in
@@ -144,11 +144,12 @@ module _ (laws : LineLaws) (below : Below) (streams : Streams) (setup : Setup) (
         appended = sym (append-nil before);
         stands = record {
           units = a.units ++ version ∷ [];
+          sizes = a.sizes ++ (length a.rest + used) ∷ [];
           rest = [];
           refusal = None;
           answers = a.answers ++ [];
           received_end = Open;
-          history = version_history below streams setup h s a.units a.rest a.answers none (open_history below streams setup kept i h s is a) piece version used low seen;
+          history = version_history below streams setup h s a.units a.sizes a.rest a.answers none (open_history below streams setup kept i h s is a) piece version used low seen;
           ends = AsReceived is;
           inside = λ o. record {
             sits = subst (λ (us : Units). Sits setup (version_in us) (payloads_in us) kept.phase kept.guess (record kept.known { version = version })) (sym after)
@@ -160,8 +161,8 @@ module _ (laws : LineLaws) (below : Below) (streams : Streams) (setup : Setup) (
               version,
               [],
               after,
-              fresh ∙ ap (λ (x : Option KeysData). record { keys = x; seq = 0; held = []; fault = None }) (sym (keys_none setup.suite setup.role setup.config version))
-                  ∙ ap (λ (n : ℕ). record { keys = keys_in setup.suite setup.role setup.config version []; seq = n; held = []; fault = None }) (sym (number_none setup.role setup.config)),
+              fresh ∙ ap (λ (x : Option KeysData). record { keys = x; seq = 0; held = []; fault = None }) (sym (keys_none setup.suite setup.role setup.config version (a.sizes ++ (length a.rest + used) ∷ [])))
+                  ∙ ap (λ (n : ℕ). record { keys = keys_in setup.suite setup.role setup.config version [] (a.sizes ++ (length a.rest + used) ∷ []); seq = n; held = []; fault = None }) (sym (number_none setup.role setup.config)),
             );
             carries = record {
               pending = w.carries.pending ∙ ap (λ (x : Phase). pending_at x (keys_at setup.suite setup.role setup.config (version_in a.units) (payloads_in a.units) (other setup.role))) p

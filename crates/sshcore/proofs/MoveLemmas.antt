@@ -13,12 +13,13 @@ use Rattle.sshneg.specs.Fields.{AlgorithmsData}
 use Rattle.sshneg.specs.Markers.{other}
 use Rattle.sshpacket.specs.KeysData.{KeysData}
 use Rattle.sshpacket.specs.Stream.{Units}
+use Rattle.sshpacket.specs.Suite.{SuiteData, advanced, all_advanced, next_keys}
 use Rattle.sshcore.specs.declared.table.Phase.{Phase}
 use Rattle.sshcore.specs.declared.table.Phase.TheVariants as phase
-use Rattle.sshcore.specs.Before.{kept, wrong_guess}
+use Rattle.sshcore.specs.Before.{kept, stood, wrong_guess}
 use Rattle.sshcore.specs.Brings.{Drops, Exchanges, Leaves, Moves, Offers, StandsAt, Stays, received_one}
 use Rattle.sshcore.specs.Counting.{number_in}
-use Rattle.sshcore.specs.Directions.{keys_in}
+use Rattle.sshcore.specs.Directions.{keys_in, sizes_since}
 use Rattle.sshcore.specs.Exchange.{exchange_at, keys_at}
 use Rattle.sshcore.specs.Inputs.{IsCarried, pending_at}
 use Rattle.sshcore.specs.StateData.{Carried, StateData, keys_due, keys_left}
@@ -27,6 +28,7 @@ use Rattle.sshcore.specs.EndpointParts.{Setup, UserKeyData}
 use Rattle.sshcore.specs.Phases.{leaving, next_phase, past_exchange, past_kexinit, past_newkeys}
 use Rattle.sshcore.specs.Standing.{Sits, after_exchange, after_offer, after_payload}
 use Rattle.sshcore.proofs.Below.{Below}
+use Rattle.sshcore.proofs.CountingLemmas.{sizes_off, sizes_on}
 use Rattle.sshcore.proofs.GuessLemmas.{read_offer}
 use Rattle.sshcore.specs.Tries.{last_key, successful_key_in}
 use Rattle.sshcore.proofs.PhaseLemmas.{kept_dropped, kept_free}
@@ -51,7 +53,13 @@ exchange_request : (role : Side) (n : ℕ) → n ≡ leaving role phase.Exchange
 exchange_request Client n e = rw e refl
 exchange_request Server n e = rw e refl
 
-module _ (below : Below) (setup : Setup) (version : List ℕ) (before : Units) (payload : List ℕ) where
+-- the keys after one packet more, after others
+pub advanced_push : (m : SuiteData) (ns : List ℕ) (keys : KeysData) (n : ℕ) → all_advanced m keys (ns ++ n ∷ []) ≡ advanced m (all_advanced m keys ns) n
+unfolding all_advanced
+advanced_push m [] keys n = refl
+advanced_push m (k ∷ ks) keys n = advanced_push m ks (advanced m keys k) n
+
+module _ (below : Below) (setup : Setup) (version : List ℕ) (before : Units) (sizes : List ℕ) (payload : List ℕ) (size : ℕ) where
   -- the keys of what is received from the peer: before, and after the payload
   abbrev pub keys_so_far : KeysData
   keys_so_far = keys_at setup.suite setup.role setup.config version before (other setup.role)
@@ -67,9 +75,27 @@ module _ (below : Below) (setup : Setup) (version : List ℕ) (before : Units) (
       → Sits setup version (before ++ payload ∷ []) new.phase new.guess new.known
   stands_new new p b k st s = as_known (before ++ payload ∷ []) p new.phase b new.guess k new.known (sym st.phase_is) (sym st.guess_is) (sym st.known_is) s
 
-  keys_in_at : (us : Units) (p : Phase) (b : Bool) (k : Known) → Sits setup version us p b k
-      → keys_in setup.suite setup.role setup.config version us ≡ cond (past_newkeys p) (Some (keys_at setup.suite setup.role setup.config version us (other setup.role))) None
-  keys_in_at us p b k s = rw (s.tied.newkeys) refl
+  keys_in_at : (us : Units) (ns : List ℕ) (p : Phase) (b : Bool) (k : Known) → Sits setup version us p b k
+      → keys_in setup.suite setup.role setup.config version us ns
+      ≡ cond (past_newkeys p) (Some (all_advanced setup.suite (keys_at setup.suite setup.role setup.config version us (other setup.role)) (sizes_since setup.role setup.config us ns))) None
+  keys_in_at us ns p b k s = rw (s.tied.newkeys) refl
+
+  -- after the key switch they go on, and at it they are the exchange's
+  abbrev sizes_after : List ℕ
+  sizes_after = sizes_since setup.role setup.config (before ++ payload ∷ []) (sizes ++ size ∷ [])
+
+  goes_on : stood setup.role setup.config.offer 21 before ≡ true → keys_after ≡ keys_so_far
+      → ◌≡◌ {A = Option KeysData} (Some (all_advanced setup.suite keys_after sizes_after)) (Some (advanced setup.suite (all_advanced setup.suite keys_so_far (sizes_since setup.role setup.config before sizes)) size))
+  goes_on on same =
+      ap Some (ap (λ (k : KeysData). all_advanced setup.suite k sizes_after) same
+      ∙ (ap (λ (ns : List ℕ). all_advanced setup.suite keys_so_far ns) (sizes_on setup.role setup.config before payload sizes size on)
+      ∙ advanced_push setup.suite (sizes_since setup.role setup.config before sizes) keys_so_far size))
+
+  begins_on : stood setup.role setup.config.offer 21 before ≡ false → keys_after ≡ keys_so_far → ◌≡◌ {A = Option KeysData} (Some (all_advanced setup.suite keys_after sizes_after)) (Some keys_so_far)
+  unfolding all_advanced
+  begins_on off same =
+      ap Some (ap (λ (k : KeysData). all_advanced setup.suite k sizes_after) same
+      ∙ ap (λ (ns : List ℕ). all_advanced setup.suite keys_so_far ns) (sizes_off setup.role setup.config before payload (sizes ++ size ∷ []) off))
 
   module _ (old new : StateData) (s : Sits setup version before old.phase old.guess old.known) where
     pub sits_after : Moves setup payload old new → Sits setup version (before ++ payload ∷ []) new.phase new.guess new.known
@@ -92,7 +118,7 @@ module _ (below : Below) (setup : Setup) (version : List ℕ) (before : Units) (
   -- what is set after a payload, and what is left
   pub record Turned (q : Phase) (pending : Option KeysData) (strict : Bool) : Type 0 where
     pub left : keys_left q pending ≡ pending_at q keys_after
-    pub keys : keys_in setup.suite setup.role setup.config version (before ++ payload ∷ []) ≡ keys_with (keys_due q pending) (keys_in setup.suite setup.role setup.config version before)
+    pub keys : keys_in setup.suite setup.role setup.config version (before ++ payload ∷ []) (sizes ++ size ∷ []) ≡ keys_with (keys_due q pending) (next_keys setup.suite (keys_in setup.suite setup.role setup.config version before sizes) size)
     pub number : number_in setup.role setup.config (before ++ payload ∷ []) ≡ number_with (keys_due q pending) strict (number_in setup.role setup.config before)
 
   turned_as : (q r : Phase) (x y : Option KeysData) (b c : Bool) → r ≡ q → y ≡ x → c ≡ b → Turned q x b → Turned r y c
@@ -104,29 +130,29 @@ module _ (below : Below) (setup : Setup) (version : List ℕ) (before : Units) (
       → (kept setup.role setup.config.offer 21 before payload ≡ false) → Turned p (pending_at p keys_so_far) strict
   calm_turn phase.KexInit guess b known next strict s t none = record {
     left = refl;
-    keys = keys_in_at (before ++ payload ∷ []) phase.KexInit b next t ∙ sym (keys_in_at before phase.KexInit guess known s);
+    keys = keys_in_at (before ++ payload ∷ []) (sizes ++ size ∷ []) phase.KexInit b next t ∙ sym (ap (λ (k : Option KeysData). next_keys setup.suite k size) (keys_in_at before sizes phase.KexInit guess known s));
     number = standing.counts_on setup version before payload phase.KexInit guess known s (inr none);
   }
   calm_turn phase.Exchange guess b known next strict s t none = record {
     left = refl;
-    keys = keys_in_at (before ++ payload ∷ []) phase.Exchange b next t ∙ sym (keys_in_at before phase.Exchange guess known s);
+    keys = keys_in_at (before ++ payload ∷ []) (sizes ++ size ∷ []) phase.Exchange b next t ∙ sym (ap (λ (k : Option KeysData). next_keys setup.suite k size) (keys_in_at before sizes phase.Exchange guess known s));
     number = standing.counts_on setup version before payload phase.Exchange guess known s (inr none);
   }
   calm_turn phase.NewKeys guess b known next strict s t none = record {
     left = ap Some (sym (standing.keeps_keys setup version before payload phase.NewKeys guess known s refl (other setup.role)));
-    keys = keys_in_at (before ++ payload ∷ []) phase.NewKeys b next t ∙ sym (keys_in_at before phase.NewKeys guess known s);
+    keys = keys_in_at (before ++ payload ∷ []) (sizes ++ size ∷ []) phase.NewKeys b next t ∙ sym (ap (λ (k : Option KeysData). next_keys setup.suite k size) (keys_in_at before sizes phase.NewKeys guess known s));
     number = standing.counts_on setup version before payload phase.NewKeys guess known s (inr none);
   }
   calm_turn phase.Service guess b known next strict s t none = record {
     left = refl;
-    keys = keys_in_at (before ++ payload ∷ []) phase.Service b next t
-        ∙ ap Some (standing.keeps_keys setup version before payload phase.Service guess known s refl (other setup.role)) ∙ sym (keys_in_at before phase.Service guess known s);
+    keys = keys_in_at (before ++ payload ∷ []) (sizes ++ size ∷ []) phase.Service b next t
+        ∙ goes_on s.tied.newkeys (standing.keeps_keys setup version before payload phase.Service guess known s refl (other setup.role)) ∙ sym (ap (λ (k : Option KeysData). next_keys setup.suite k size) (keys_in_at before sizes phase.Service guess known s));
     number = standing.counts_on setup version before payload phase.Service guess known s (inr none);
   }
   calm_turn phase.Auth guess b known next strict s t none = record {
     left = refl;
-    keys = keys_in_at (before ++ payload ∷ []) phase.Auth b next t
-        ∙ ap Some (standing.keeps_keys setup version before payload phase.Auth guess known s refl (other setup.role)) ∙ sym (keys_in_at before phase.Auth guess known s);
+    keys = keys_in_at (before ++ payload ∷ []) (sizes ++ size ∷ []) phase.Auth b next t
+        ∙ goes_on s.tied.newkeys (standing.keeps_keys setup version before payload phase.Auth guess known s refl (other setup.role)) ∙ sym (ap (λ (k : Option KeysData). next_keys setup.suite k size) (keys_in_at before sizes phase.Auth guess known s));
     number = standing.counts_on setup version before payload phase.Auth guess known s (inr none);
   }
 
@@ -137,7 +163,7 @@ module _ (below : Below) (setup : Setup) (version : List ℕ) (before : Units) (
   leaving_turn phase.Exchange b known next s t past is = absurd (true≢false (sym past))
   leaving_turn phase.NewKeys b known next s t past is = record {
     left = refl;
-    keys = keys_in_at (before ++ payload ∷ []) phase.Service b next t ∙ ap Some (standing.keeps_keys setup version before payload phase.NewKeys false known s refl (other setup.role));
+    keys = keys_in_at (before ++ payload ∷ []) (sizes ++ size ∷ []) phase.Service b next t ∙ begins_on s.tied.newkeys (standing.keeps_keys setup version before payload phase.NewKeys false known s refl (other setup.role));
     number = standing.counts_anew setup version before payload known s (newkeys_kind setup.role (kind payload) is);
   }
     where
@@ -146,14 +172,14 @@ module _ (below : Below) (setup : Setup) (version : List ℕ) (before : Units) (
       newkeys_kind Server n e = e
   leaving_turn phase.Service b known next s t past is = record {
     left = refl;
-    keys = keys_in_at (before ++ payload ∷ []) phase.Auth b next t
-        ∙ ap Some (standing.keeps_keys setup version before payload phase.Service false known s refl (other setup.role)) ∙ sym (keys_in_at before phase.Service false known s);
+    keys = keys_in_at (before ++ payload ∷ []) (sizes ++ size ∷ []) phase.Auth b next t
+        ∙ goes_on s.tied.newkeys (standing.keeps_keys setup version before payload phase.Service false known s refl (other setup.role)) ∙ sym (ap (λ (k : Option KeysData). next_keys setup.suite k size) (keys_in_at before sizes phase.Service false known s));
     number = standing.counts_on setup version before payload phase.Service false known s (inl refl);
   }
   leaving_turn phase.Auth b known next s t past is = record {
     left = refl;
-    keys = keys_in_at (before ++ payload ∷ []) phase.Auth b next t
-        ∙ ap Some (standing.keeps_keys setup version before payload phase.Auth false known s refl (other setup.role)) ∙ sym (keys_in_at before phase.Auth false known s);
+    keys = keys_in_at (before ++ payload ∷ []) (sizes ++ size ∷ []) phase.Auth b next t
+        ∙ goes_on s.tied.newkeys (standing.keeps_keys setup version before payload phase.Auth false known s refl (other setup.role)) ∙ sym (ap (λ (k : Option KeysData). next_keys setup.suite k size) (keys_in_at before sizes phase.Auth false known s));
     number = standing.counts_on setup version before payload phase.Auth false known s (inl refl);
   }
 
@@ -172,8 +198,8 @@ module _ (below : Below) (setup : Setup) (version : List ℕ) (before : Units) (
         let unkept : kept setup.role setup.config.offer 21 before payload ≡ false = kept_free setup.role setup.config.offer before payload 21 s0.due ∙ rw twenty refl in
         turned_as phase.Exchange new.phase None new.carried.pending new.known.strict new.known.strict st.phase_is (ap (λ (c : Carried). c.pending) same ∙ pending ∙ ap (λ (p : Phase). pending_at p keys_so_far) at) refl (record {
           left = refl;
-          keys = keys_in_at (before ++ payload ∷ []) phase.Exchange (wrong_guess setup.role setup.config.offer (Some peer)) (after_offer setup.suite setup.role setup.config old.known payload peer) t0
-              ∙ sym (keys_in_at before phase.KexInit false old.known s0);
+          keys = keys_in_at (before ++ payload ∷ []) (sizes ++ size ∷ []) phase.Exchange (wrong_guess setup.role setup.config.offer (Some peer)) (after_offer setup.suite setup.role setup.config old.known payload peer) t0
+              ∙ sym (ap (λ (k : Option KeysData). next_keys setup.suite k size) (keys_in_at before sizes phase.KexInit false old.known s0));
           number = standing.counts_on setup version before payload phase.KexInit false old.known s0 (inr unkept);
         })
     turned (Drops due one same st) =
@@ -189,7 +215,7 @@ module _ (below : Below) (setup : Setup) (version : List ℕ) (before : Units) (
         turned_as phase.NewKeys new.phase (Some keys_after) new.carried.pending new.known.strict new.known.strict st.phase_is
         (ap (λ (c : Carried). c.pending) same ∙ ap Some (sym (standing.makes_keys setup version before payload old.known s0 is (other setup.role)))) refl (record {
           left = refl;
-          keys = keys_in_at (before ++ payload ∷ []) phase.NewKeys false (after_exchange setup.suite setup.role setup.config old.known payload) t0 ∙ sym (keys_in_at before phase.Exchange false old.known s0);
+          keys = keys_in_at (before ++ payload ∷ []) (sizes ++ size ∷ []) phase.NewKeys false (after_exchange setup.suite setup.role setup.config old.known payload) t0 ∙ sym (ap (λ (k : Option KeysData). next_keys setup.suite k size) (keys_in_at before sizes phase.Exchange false old.known s0));
           number = standing.counts_on setup version before payload phase.Exchange false old.known s0 (inr unkept);
         })
     turned (Leaves none past is same st) =

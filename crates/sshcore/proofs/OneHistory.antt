@@ -34,11 +34,11 @@ module _ (setup : Setup) where
       let t = last_same before other last end (sym is ∙ is_too) in
       e ∙ ap (λ (b : Units). end_at setup b last) t.0 ∙ ap (λ (u : List ℕ). end_at setup other u) t.1 ∙ sym f
 
-  pub one_by : (units other_units : Units) (refusal other_refusal : Option Refusal) (rest other_rest : List ℕ) (answers other_answers : Units) (end other_end : EndData) (h s t : List ℕ)
+  pub one_by : (units other_units : Units) (refusal other_refusal : Option Refusal) (sizes other_sizes rest other_rest : List ℕ) (answers other_answers : Units) (end other_end : EndData) (h s t : List ℕ)
       → Same units other_units rest other_rest refusal other_refusal
-      → History setup units rest refusal answers end h s → History setup other_units other_rest other_refusal other_answers other_end h t
+      → History setup units sizes rest refusal answers end h s → History setup other_units other_sizes other_rest other_refusal other_answers other_end h t
       → IsOneHistory units other_units rest other_rest refusal other_refusal answers other_answers end other_end s t
-  one_by units other_units refusal other_refusal rest other_rest answers other_answers end other_end h s t same a b =
+  one_by units other_units refusal other_refusal sizes other_sizes rest other_rest answers other_answers end other_end h s t same a b =
       let replied : answers ≡ other_answers =
       a.replies.in_order
       ∙ ap (λ (us : Units). making setup.suite setup.role setup.config ++ (flat_places (answers_at setup) [] us ++ (refusal_reply refusal).answers)) same.same_units

@@ -42,13 +42,14 @@ module _ (old new : StateData) (same_end : new.end ≡ old.end) (same : IsOngoin
   stands_as : (setup : Setup) (i : Input) (h s : List ℕ) → EndpointStands setup old i h s → EndpointStands setup new i h s
   stands_as setup i h s a = record {
     units = a.units;
+    sizes = a.sizes;
     rest = a.rest;
     refusal = a.refusal;
     answers = a.answers;
     received_end = a.received_end;
     history = a.history;
     ends = subst (λ (e : EndData). StandsSo a.received_end e) (sym same_end) a.ends;
-    inside = λ o. subst (λ (k : StateData). IsInside setup a.units a.answers a.rest k i) (sym (same (goes_on o))) (a.inside (goes_on o));
+    inside = λ o. subst (λ (k : StateData). IsInside setup a.units a.answers a.sizes a.rest k i) (sym (same (goes_on o))) (a.inside (goes_on o));
   }
 
   pub asking_stands_as : (setup : Setup) (j : Input) (w : Option WaitingData) (h s : List ℕ) → AskingStands setup old j w h s → AskingStands setup new j w h s

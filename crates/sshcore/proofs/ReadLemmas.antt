@@ -11,7 +11,7 @@ use Rattle.sshpacket.specs.KeysData.{KeysData}
 use Rattle.sshpacket.specs.Parse.{OfPacket, Refusal, refused, unfinished, whole}
 use Rattle.sshpacket.specs.PacketReaderData.{PacketReaderData, ahead, packet_reader_data}
 use Rattle.sshpacket.specs.Stream.{IsIncremental, Parser, Units}
-use Rattle.sshpacket.specs.Suite.{SuiteData}
+use Rattle.sshpacket.specs.Suite.{SuiteData, next_keys}
 use Rattle.sshcore.specs.declared.input.Input.TheVariants as input
 use Rattle.sshcore.specs.Brings.{Brings, Gives}
 use Rattle.sshcore.specs.Counting.{number_in}
@@ -34,11 +34,11 @@ reader_with None strict r = r
 reader_with (Some keys) strict r = record r { keys = Some keys; seq = if strict then 0 else r.seq }
 
 -- what is read after these units is read as the reader reads
-pub read_as : (m : SuiteData) (role : Side) (party : ConfigData) (units : Units) (version : List ℕ) (before : Units) (rest piece : List ℕ) (r : PacketReaderData) → units ≡ version ∷ before
-    → r ≡ record { keys = keys_in m role party version before; seq = number_in role party before; held = rest; fault = None }
-    → parsers m role party units (rest ++ piece) ≡ ahead m r piece
-read_as m role party units version before rest piece r e f =
-    ap (λ (us : Units). parsers m role party us (rest ++ piece)) e ∙ sym (ap (λ (t : PacketReaderData). ahead m t piece) f)
+pub read_as : (m : SuiteData) (role : Side) (party : ConfigData) (units : Units) (version : List ℕ) (before : Units) (sizes rest piece : List ℕ) (r : PacketReaderData) → units ≡ version ∷ before
+    → r ≡ record { keys = keys_in m role party version before sizes; seq = number_in role party before; held = rest; fault = None }
+    → parsers m role party units sizes (rest ++ piece) ≡ ahead m r piece
+read_as m role party units version before sizes rest piece r e f =
+    ap (λ (us : Units). parsers m role party us sizes (rest ++ piece)) e ∙ sym (ap (λ (t : PacketReaderData). ahead m t piece) f)
 
 -- what is refused after unfinished bytes, is refused for some bytes of the piece
 pub refused_some : (parser : Parser) → IsIncremental parser → (rest piece : List ℕ) (used : ℕ) (r : Refusal) → parser rest ≡ unfinished → parser (rest ++ piece) ≡ refused r (length rest + used) → 0 < used
@@ -58,8 +58,8 @@ module _ (below : Below) (streams : Streams) (setup : Setup) (r q : PacketReader
   packets_held e left h s a =
       let i = within below streams setup kept (input.Packets r) h s is a in
       let x = i.reads in
-      let seen : parsers setup.suite setup.role setup.config a.units (a.rest ++ piece) ≡ unfinished = read_as setup.suite setup.role setup.config a.units x.0 x.1 a.rest piece (packet_reader_data r) x.2 x.3 ∙ e in
-      let held : packet_reader_data q ≡ record { keys = keys_in setup.suite setup.role setup.config x.0 x.1; seq = number_in setup.role setup.config x.1; held = a.rest ++ piece; fault = None } =
+      let seen : parsers setup.suite setup.role setup.config a.units a.sizes (a.rest ++ piece) ≡ unfinished = read_as setup.suite setup.role setup.config a.units x.0 x.1 a.sizes a.rest piece (packet_reader_data r) x.2 x.3 ∙ e in
+      let held : packet_reader_data q ≡ record { keys = keys_in setup.suite setup.role setup.config x.0 x.1 a.sizes; seq = number_in setup.role setup.config x.1; held = a.rest ++ piece; fault = None } =
       left ∙ ap (λ (t : PacketReaderData). record t { held = t.held ++ piece }) x.3 in
       stands_part below streams setup kept (input.Packets r) h s is a (input.Packets q) piece seen (x.0, x.1, x.2, held)
 
@@ -82,14 +82,14 @@ module _ (below : Below) (streams : Streams) (setup : Setup) (r q : PacketReader
   packets_refused new used f strict next low e gives h s a =
       let i = within below streams setup kept (input.Packets r) h s is a in
       let x = i.reads in
-      let seen : parsers setup.suite setup.role setup.config a.units (a.rest ++ piece) ≡ refused (OfPacket f) (length a.rest + used) =
-      read_as setup.suite setup.role setup.config a.units x.0 x.1 a.rest piece (packet_reader_data r) x.2 x.3 ∙ e ∙ ap (λ (t : PacketReaderData). refused (OfPacket f) (length t.held + used)) x.3 in
+      let seen : parsers setup.suite setup.role setup.config a.units a.sizes (a.rest ++ piece) ≡ refused (OfPacket f) (length a.rest + used) =
+      read_as setup.suite setup.role setup.config a.units x.0 x.1 a.sizes a.rest piece (packet_reader_data r) x.2 x.3 ∙ e ∙ ap (λ (t : PacketReaderData). refused (OfPacket f) (length t.held + used)) x.3 in
       stands_refused below streams setup kept (input.Packets r) h s is a new (input.Packets q) piece used (OfPacket f) before after strict next low seen gives
 
   -- a packet was read, and answered
   pub packets_unit : (p : PacketReader) (new last : StateData) (used packet : ℕ) (payload : List ℕ) → used ≤ length piece
       → ahead setup.suite (packet_reader_data r) piece ≡ whole payload (length (packet_reader_data r).held + used) → packet ≡ (packet_reader_data r).seq
-      → packet_reader_data p ≡ record (packet_reader_data r) { held = []; seq = ((packet_reader_data r).seq + 1) % 2 ^ 32 }
+      → packet_reader_data p ≡ record (packet_reader_data r) { keys = next_keys setup.suite (packet_reader_data r).keys (length (packet_reader_data r).held + used); held = []; seq = ((packet_reader_data r).seq + 1) % 2 ^ 32 }
       → (HasForm setup.suite kept → Brings setup kept new packet payload before after)
       → last.end ≡ new.end → last.phase ≡ new.phase → last.guess ≡ new.guess → last.known ≡ new.known → last.sending ≡ new.sending
       → last.carried ≡ record new.carried { pending = keys_left new.phase new.carried.pending }
@@ -98,11 +98,13 @@ module _ (below : Below) (streams : Streams) (setup : Setup) (r q : PacketReader
   packets_unit p new last used packet payload low e number left brings same_end same_phase same_guess same_known same_sending carried set h s a =
       let i = within below streams setup kept (input.Packets r) h s is a in
       let x = i.reads in
-      let seen : parsers setup.suite setup.role setup.config a.units (a.rest ++ piece) ≡ whole payload (length a.rest + used) =
-      read_as setup.suite setup.role setup.config a.units x.0 x.1 a.rest piece (packet_reader_data r) x.2 x.3 ∙ e ∙ ap (λ (t : PacketReaderData). whole payload (length t.held + used)) x.3 in
+      let seen : parsers setup.suite setup.role setup.config a.units a.sizes (a.rest ++ piece) ≡ whole payload (length a.rest + used) =
+      read_as setup.suite setup.role setup.config a.units x.0 x.1 a.sizes a.rest piece (packet_reader_data r) x.2 x.3 ∙ e ∙ ap (λ (t : PacketReaderData). whole payload (length t.held + used)) x.3 in
       let number_is : packet ≡ number_in setup.role setup.config x.1 = number ∙ ap (λ (t : PacketReaderData). t.seq) x.3 in
-      let held : packet_reader_data p ≡ record { keys = keys_in setup.suite setup.role setup.config x.0 x.1; seq = (number_in setup.role setup.config x.1 + 1) % 2 ^ 32; held = []; fault = None } =
-      left ∙ ap (λ (t : PacketReaderData). record t { held = []; seq = (t.seq + 1) % 2 ^ 32 }) x.3 in
+      let size : ℕ = length a.rest + used in
+      let keys : Option KeysData = next_keys setup.suite (keys_in setup.suite setup.role setup.config x.0 x.1 a.sizes) size in
+      let held : packet_reader_data p ≡ record { keys = keys; seq = (number_in setup.role setup.config x.1 + 1) % 2 ^ 32; held = []; fault = None } =
+      left ∙ ap (λ (t : PacketReaderData). record t { keys = next_keys setup.suite t.keys (length t.held + used); held = []; seq = (t.seq + 1) % 2 ^ 32 }) x.3 in
       stands_unit below streams setup kept (input.Packets r) h s is a x.0 x.1 x.2 new last (input.Packets q) piece payload used packet before after low seen number_is
       (brings i.form) same_end same_phase same_guess same_known same_sending carried
       (λ keys_are seq_is. (
@@ -110,9 +112,9 @@ module _ (below : Below) (streams : Streams) (setup : Setup) (r q : PacketReader
         x.1 ++ payload ∷ [],
         ap (λ (us : Units). us ++ payload ∷ []) x.2,
         set ∙ ap (λ (t : PacketReaderData). reader_with (keys_due new.phase new.carried.pending) new.known.strict t) held
-            ∙ with_keys (keys_due new.phase new.carried.pending) new.known.strict (keys_in setup.suite setup.role setup.config x.0 x.1) (number_in setup.role setup.config x.1)
+            ∙ with_keys (keys_due new.phase new.carried.pending) new.known.strict keys (number_in setup.role setup.config x.1)
             ∙ ap (λ (k : Option KeysData). record { keys = k; seq = number_with (keys_due new.phase new.carried.pending) new.known.strict (number_in setup.role setup.config x.1); held = []; fault = None }) (sym keys_are)
-            ∙ ap (λ (n : ℕ). record { keys = keys_in setup.suite setup.role setup.config x.0 (x.1 ++ payload ∷ []); seq = n; held = []; fault = None }) (sym seq_is),
+            ∙ ap (λ (n : ℕ). record { keys = keys_in setup.suite setup.role setup.config x.0 (x.1 ++ payload ∷ []) (a.sizes ++ size ∷ []); seq = n; held = []; fault = None }) (sym seq_is),
       ))
     where
       with_keys : (k : Option KeysData) (strict : Bool) (keys : Option KeysData) (n : ℕ)

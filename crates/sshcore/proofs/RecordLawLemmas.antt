@@ -26,18 +26,19 @@ use Rattle.sshcore.specs.RecordMade.{GoesOnFrom, IsAsFar, IsReading, IsRecorded,
 use Rattle.sshcore.specs.StateData.{StateData}
 use Rattle.sshcore.specs.Unread.{AskingStands}
 
-input_as : (m : SuiteData) (role : Side) (party : ConfigData) (units : Units) (rest : List ℕ) (i j : Input) → IsSameInput (form_of party.reading role) i j
-    → IsInput m role party units rest i → IsInput m role party units rest j
-input_as m role party units rest (input.Lines r) (input.Lines q) same is =
+input_as : (m : SuiteData) (role : Side) (party : ConfigData) (units : Units) (sizes rest : List ℕ) (i j : Input) → IsSameInput (form_of party.reading role) i j
+    → IsInput m role party units sizes rest i → IsInput m role party units sizes rest j
+input_as m role party units sizes rest (input.Lines r) (input.Lines q) same is =
     (is.0, subst (λ (p : Progress). StandsOpen (others_of role) rest p) (sym same.0) is.1, same.1)
-input_as m role party units rest (input.Lines r) (input.Packets q) same is = absurd same
-input_as m role party units rest (input.Packets r) (input.Lines q) same is = absurd same
-input_as m role party units rest (input.Packets r) (input.Packets q) same is = (is.0, is.1, is.2, same ∙ is.3)
+input_as m role party units sizes rest (input.Lines r) (input.Packets q) same is = absurd same
+input_as m role party units sizes rest (input.Packets r) (input.Lines q) same is = absurd same
+input_as m role party units sizes rest (input.Packets r) (input.Packets q) same is = (is.0, is.1, is.2, same ∙ is.3)
 
 stands_as : (setup : Setup) (kept : StateData) (i j : Input) (h s : List ℕ) → IsSameInput (form_of setup.config.reading setup.role) i j
     → EndpointStands setup kept i h s → EndpointStands setup kept j h s
 stands_as setup kept i j h s same a = record {
   units = a.units;
+  sizes = a.sizes;
   rest = a.rest;
   refusal = a.refusal;
   answers = a.answers;
@@ -47,7 +48,7 @@ stands_as setup kept i j h s same a = record {
   inside = λ o. let x = a.inside o in record {
     sits = x.sits;
     form = x.form;
-    reads = input_as setup.suite setup.role setup.config a.units a.rest i j same x.reads;
+    reads = input_as setup.suite setup.role setup.config a.units a.sizes a.rest i j same x.reads;
     carries = x.carries;
     speaks = x.speaks;
   };
@@ -119,14 +120,14 @@ waits_at k received (Waits left line) stands = (left, line, refl)
 waits_at k received Finished stands = absurd stands
 waits_at k received (Refused code) stands = absurd stands
 
-reading_in : (m : SuiteData) (role : Side) (party : ConfigData) (units : Units) (rest : List ℕ) (i : Input) → IsInput m role party units rest i → IsReading i
-reading_in m role party units rest (input.Lines r) is = waits_at (others_of role) rest r.state.progress is.1
-reading_in m role party units rest (input.Packets r) is = tt
+reading_in : (m : SuiteData) (role : Side) (party : ConfigData) (units : Units) (sizes rest : List ℕ) (i : Input) → IsInput m role party units sizes rest i → IsReading i
+reading_in m role party units sizes rest (input.Lines r) is = waits_at (others_of role) rest r.state.progress is.1
+reading_in m role party units sizes rest (input.Packets r) is = tt
 
 -- an open endpoint with a history reads on
 pub reading_of : (setup : Setup) (kept : StateData) (i : Input) (v : Option WaitingData) (h s : List ℕ) → kept.end ≡ Open → AskingStands setup kept i v h s → IsReading i
 reading_of setup kept i None h s is a =
-    subst IsReading a.unread.0 (reading_in setup.suite setup.role setup.config a.stands.units a.stands.rest a.reader (a.stands.inside (inl is)).reads)
+    subst IsReading a.unread.0 (reading_in setup.suite setup.role setup.config a.stands.units a.stands.sizes a.stands.rest a.reader (a.stands.inside (inl is)).reads)
 reading_of setup kept i (Some w) h s is a = subst IsReading (sym a.unread.2.is) tt
 
 -- what was made of a record goes on from there

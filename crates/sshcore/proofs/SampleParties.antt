@@ -28,6 +28,7 @@ toy = record {
   seal = λ keys seq clear. clear;
   head = λ keys seq first. number first;
   unseal = λ keys seq sealed. Some sealed;
+  next_iv = λ keys len. keys.iv;
   padding = λ seed seq len. [];
   share_form = λ kex. if bytes_eq kex (codes "o") then OctetString else Mpint;
   share = λ kex random. 1 ∷ random;

@@ -17,7 +17,8 @@ use Rattle.sshneg.specs.declared.choice.NoCommon.TheVariants as field
 use Rattle.sshneg.specs.declared.side.Side.TheVariants.{Client, Server}
 use Rattle.sshpacket.specs.KeysData.{KeysData}
 use Rattle.sshcore.specs.Directions.{keys_in, keys_out}
-use Rattle.sshpacket.specs.Suite.{SuiteData}
+use Rattle.sshpacket.specs.Suite.{SuiteData, all_advanced}
+use Rattle.sshpacket.specs.Written.{after_all, sealed_size}
 use Rattle.sshcore.specs.declared.end.Fault.TheVariants as fault
 use Rattle.sshcore.specs.declared.table.Phase.TheVariants as phase
 use Rattle.sshcore.specs.Before.{all_kept, count_kept, expects_guess, first_kept, kexinit, offered, since, since_offer, stood}
@@ -104,9 +105,18 @@ to_client : KeysData
 to_client = record { cipher = codes "d"; mac = codes "n"; iv = codes "B"; enc = codes "D"; mac_key = codes "F" }
 
 -- a direction is in clear up to its NEWKEYS, and then has its keys: the client seals what the server unseals, and back
-both_directions : (v : List ℕ) → (keys_in toy Server server v (hello true ∷ init ∷ []) ≡ None) × (keys_in toy Server server v (hello true ∷ init ∷ (21 ∷ []) ∷ []) ≡ Some to_server) × (keys_in toy Client client v (welcome true ∷ reply ∷ (21 ∷ []) ∷ []) ≡ Some to_client) × (keys_out toy Server server (v ∷ hello true ∷ init ∷ []) (welcome true ∷ reply ∷ []) ≡ None) × (keys_out toy Server server (v ∷ hello true ∷ init ∷ []) (welcome true ∷ reply ∷ (21 ∷ []) ∷ []) ≡ Some to_client) × (keys_out toy Client client (v ∷ welcome true ∷ reply ∷ []) (hello true ∷ init ∷ (21 ∷ []) ∷ []) ≡ Some to_server)
-unfolding toy kexinit_data config_data kexinit_of a ab ba o trusting wary written_message offered kexinit since_offer expects_guess stood first_kept since line_by line_reply work kexinit_reply init_reply reply_reply secret_of choice choice_of_directions exchange_with exchange_by exchange_text number_out switched_out derived key message_in messages.form_of messages.ext_info messages.extensions messages.kexinit readings.string_at readings.uint32_at readings.names_at readings.names_in readings.mpint_at readings.mpint_in ignore server client hello init reply request accept welcome to_server to_client
+both_directions : (v : List ℕ) → (keys_in toy Server server v (hello true ∷ init ∷ []) (15 ∷ 112 ∷ 16 ∷ []) ≡ None) × (keys_in toy Server server v (hello true ∷ init ∷ (21 ∷ []) ∷ []) (15 ∷ 112 ∷ 16 ∷ 16 ∷ []) ≡ Some to_server) × (keys_in toy Client client v (welcome true ∷ reply ∷ (21 ∷ []) ∷ []) (15 ∷ 112 ∷ 32 ∷ 16 ∷ []) ≡ Some to_client) × (keys_out toy Server server (v ∷ hello true ∷ init ∷ []) (welcome true ∷ reply ∷ []) ≡ None) × (keys_out toy Server server (v ∷ hello true ∷ init ∷ []) (welcome true ∷ reply ∷ (21 ∷ []) ∷ []) ≡ Some to_client) × (keys_out toy Client client (v ∷ welcome true ∷ reply ∷ []) (hello true ∷ init ∷ (21 ∷ []) ∷ []) ≡ Some to_server)
+unfolding toy kexinit_data config_data kexinit_of a ab ba o trusting wary written_message offered kexinit since_offer expects_guess stood first_kept since line_by line_reply work kexinit_reply init_reply reply_reply secret_of choice choice_of_directions exchange_with exchange_by exchange_text number_out switched_out derived key message_in messages.form_of messages.ext_info messages.extensions messages.kexinit readings.string_at readings.uint32_at readings.names_at readings.names_in readings.mpint_at readings.mpint_in ignore server client hello init reply request accept welcome to_server to_client all_advanced after_all
 both_directions v = (refl, refl, refl, refl, refl, refl)
+
+-- a suite whose initialisation vector goes on: it keeps the sizes of the packets, the last one first
+moving : SuiteData
+moving = record toy { next_iv = λ keys len. len ∷ keys.iv }
+
+-- keys advance with each packet after their NEWKEYS, and with none before it
+keys_advance : (v : List ℕ) → (keys_in moving Server server v (hello true ∷ init ∷ (21 ∷ []) ∷ []) (15 ∷ 112 ∷ 16 ∷ 16 ∷ []) ≡ Some to_server) × (keys_in moving Server server v (hello true ∷ init ∷ (21 ∷ []) ∷ request ∷ ignore ∷ []) (15 ∷ 112 ∷ 16 ∷ 16 ∷ 32 ∷ 16 ∷ []) ≡ Some (record to_server { iv = 16 ∷ 32 ∷ codes "A" })) × (keys_out moving Server server (v ∷ hello true ∷ init ∷ []) (welcome true ∷ reply ∷ (21 ∷ []) ∷ []) ≡ Some to_client) × (keys_out moving Server server (v ∷ hello true ∷ init ∷ []) (welcome true ∷ reply ∷ (21 ∷ []) ∷ accept ∷ ignore ∷ []) ≡ Some (record to_client { iv = 16 ∷ 32 ∷ codes "B" }))
+unfolding toy kexinit_data config_data kexinit_of a ab ba o trusting wary written_message offered kexinit since_offer expects_guess stood first_kept since line_by line_reply work kexinit_reply init_reply reply_reply secret_of choice choice_of_directions exchange_with exchange_by exchange_text number_out switched_out derived key message_in messages.form_of messages.ext_info messages.extensions messages.kexinit readings.string_at readings.uint32_at readings.names_at readings.names_in readings.mpint_at readings.mpint_in ignore server client hello init reply request accept welcome to_server to_client all_advanced after_all sealed_size moving
+keys_advance v = (refl, refl, refl, refl)
 
 -- phase and number of the next packet, place by place, strict and not
 phases : (phase_at Server server.offer [] ≡ phase.KexInit) × (phase_at Server server.offer (hello true ∷ []) ≡ phase.Exchange) × (phase_at Server server.offer (hello true ∷ init ∷ []) ≡ phase.NewKeys) × (phase_at Server server.offer (hello true ∷ init ∷ (21 ∷ []) ∷ []) ≡ phase.Service) × (phase_at Server server.offer (hello true ∷ init ∷ (21 ∷ []) ∷ request ∷ []) ≡ phase.Auth) × (number_in Server server (hello true ∷ init ∷ []) ≡ 2) × (number_in Server server (hello true ∷ init ∷ (21 ∷ []) ∷ []) ≡ 0) × (number_in Server server (hello true ∷ init ∷ (21 ∷ []) ∷ request ∷ []) ≡ 1) × (number_in Server server (hello false ∷ init ∷ (21 ∷ []) ∷ []) ≡ 3) × (number_out true (welcome true ∷ reply ∷ (21 ∷ []) ∷ []) ≡ 0) × (number_out false (welcome true ∷ reply ∷ (21 ∷ []) ∷ []) ≡ 3)

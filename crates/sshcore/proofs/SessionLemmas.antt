@@ -20,10 +20,11 @@ use Rattle.sshneg.specs.Markers.{other}
 use Rattle.sshpacket.specs.KeysData.{KeysData}
 use Rattle.sshpacket.specs.declared.reader.PacketReader.{PacketReader}
 use Rattle.sshpacket.specs.Parse.{Refusal}
-use Rattle.sshpacket.specs.Places.{EachPlace, flat_places}
+use Rattle.sshpacket.specs.Places.{EachPlace, after_first, flat_places}
 use Rattle.sshpacket.specs.PacketReaderData.{PacketReaderData, packet_reader_data}
 use Rattle.sshpacket.specs.Stream.{Units}
-use Rattle.sshpacket.specs.Suite.{ResponseData, SuiteData}
+use Rattle.sshpacket.specs.Suite.{ResponseData, SuiteData, all_advanced}
+use Rattle.sshpacket.specs.Written.{after_all}
 use Rattle.sshpacket.proofs.Places.{flat-push}
 use Rattle.sshcore.specs.declared.end.Agreed.{Agreed}
 use Rattle.sshcore.specs.declared.end.End.{End}
@@ -40,8 +41,8 @@ use Rattle.sshcore.specs.declared.table.Phase.{Phase}
 use Rattle.sshcore.specs.declared.table.Phase.TheVariants as phase
 use Rattle.sshcore.specs.Authenticated.{IsAuthenticated}
 use Rattle.sshcore.specs.Before.{expects_guess, kept, stood, strict_at}
-use Rattle.sshcore.specs.Counting.{number_in, number_out, switched_out}
-use Rattle.sshcore.specs.Directions.{keys_in, keys_out, payloads_in, version_in}
+use Rattle.sshcore.specs.Counting.{is_newkeys, number_in, number_out, switched_out}
+use Rattle.sshcore.specs.Directions.{keys_in, keys_out, payloads_in, sizes_since, version_in}
 use Rattle.sshcore.specs.EndData.{AgreedData, Authenticated, EndData, Failed, Open, Reply, agreed_data, end_data, fails, goes}
 use Rattle.sshcore.specs.Exchange.{answer_with, exchange_at, exchange_with, keys_at, secret_of}
 use Rattle.sshcore.specs.Inputs.{AsReceived, CutOff, EndpointStands, IsInside, Left, StandsSo}
@@ -227,12 +228,12 @@ module _ (below : Below) (setup : Setup) where
           (open_switches version [] before phase.KexInit (begun_none below setup) stays.1 none_stood tied.exchange))
 
 -- What an endpoint keeps that ended authenticated: the keys of both directions, and the numbers of the next packets.
-pub record HandsOver (m : SuiteData) (role : Side) (party : ConfigData) (units answers : Units) (reading : PacketReaderData) (sending : Sending) : Type 0 where
+pub record HandsOver (m : SuiteData) (role : Side) (party : ConfigData) (units answers : Units) (sizes : List ℕ) (reading : PacketReaderData) (sending : Sending) : Type 0 where
   pub incoming : KeysData
   pub outgoing : KeysData
   pub reads_with : reading.keys ≡ Some incoming
   pub sends_with : sending.keys ≡ Some outgoing
-  pub incoming_keys : keys_in m role party (version_in units) (payloads_in units) ≡ Some incoming
+  pub incoming_keys : keys_in m role party (version_in units) (payloads_in units) sizes ≡ Some incoming
   pub incoming_number : reading.seq ≡ number_in role party (payloads_in units)
   pub outgoing_keys : keys_out m role party units answers ≡ Some outgoing
   pub outgoing_number : sending.number ≡ number_out (strict_at role party (payloads_in units)) answers
@@ -258,7 +259,7 @@ module _ (below : Below) (setup : Setup) where
     ended_so : IsAuthenticated setup p.units a
     ended_so = authenticated below setup p.units p.refusal a replies.ends
 
-    inside : IsInside setup p.units p.answers p.rest kept i
+    inside : IsInside setup p.units p.answers p.sizes p.rest kept i
     inside = p.inside (inr (a, is))
 
     -- nothing stands after the bytes that it used
@@ -266,7 +267,7 @@ module _ (below : Below) (setup : Setup) where
     none_left = p.history.last (authenticated_shut p.received_end a (uncut_end p.received_end kept.end a p.ends is)) (none_refused_at setup p.units p.refusal a replies.ends)
 
   by_packets : (kept : StateData) (reader : PacketReader) (h s : List ℕ) (p : EndpointStands setup kept (input.Packets reader) h s) (a : AgreedData) → kept.end ≡ Authenticated a
-      → HandsOver setup.suite setup.role setup.config p.units p.answers (packet_reader_data reader) kept.sending
+      → HandsOver setup.suite setup.role setup.config p.units p.answers p.sizes (packet_reader_data reader) kept.sending
   by_packets kept reader h s p a is =
       let e = ended_so kept (input.Packets reader) h s p a is in
       let inner = inside kept (input.Packets reader) h s p a is in
@@ -274,14 +275,16 @@ module _ (below : Below) (setup : Setup) where
       let version = inner.reads.0 in
       let before = inner.reads.1 in
       let units_are : p.units ≡ version ∷ before = inner.reads.2 in
-      let reading : packet_reader_data reader ≡ record { keys = keys_in setup.suite setup.role setup.config version before; seq = number_in setup.role setup.config before; held = p.rest; fault = None } = inner.reads.3 in
-      let in_keys : keys_in setup.suite setup.role setup.config (version_in p.units) (payloads_in p.units) ≡ Some (keys_at setup.suite setup.role setup.config (version_in p.units) (payloads_in p.units) (other setup.role)) =
+      let reading : packet_reader_data reader ≡ record { keys = keys_in setup.suite setup.role setup.config version before p.sizes; seq = number_in setup.role setup.config before; held = p.rest; fault = None } = inner.reads.3 in
+      let incoming : KeysData = all_advanced setup.suite (keys_at setup.suite setup.role setup.config (version_in p.units) (payloads_in p.units) (other setup.role)) (sizes_since setup.role setup.config (payloads_in p.units) p.sizes) in
+      let outgoing : KeysData = after_all setup.suite (keys_at setup.suite setup.role setup.config (version_in p.units) (payloads_in p.units) setup.role) (after_first is_newkeys [] p.answers) in
+      let in_keys : keys_in setup.suite setup.role setup.config (version_in p.units) (payloads_in p.units) p.sizes ≡ Some incoming =
       rw (auth_switched setup.role setup.config.offer (payloads_in p.units) e.stays_in_auth) refl in
-      let out_keys : keys_out setup.suite setup.role setup.config p.units p.answers ≡ Some (keys_at setup.suite setup.role setup.config (version_in p.units) (payloads_in p.units) setup.role) = rw on refl in
+      let out_keys : keys_out setup.suite setup.role setup.config p.units p.answers ≡ Some outgoing = rw on refl in
       record {
-        incoming = keys_at setup.suite setup.role setup.config (version_in p.units) (payloads_in p.units) (other setup.role);
-        outgoing = keys_at setup.suite setup.role setup.config (version_in p.units) (payloads_in p.units) setup.role;
-        reads_with = ap (λ (r : PacketReaderData). r.keys) reading ∙ ap (λ (l : Units). keys_in setup.suite setup.role setup.config (version_in l) (payloads_in l)) (sym units_are) ∙ in_keys;
+        incoming = incoming;
+        outgoing = outgoing;
+        reads_with = ap (λ (r : PacketReaderData). r.keys) reading ∙ ap (λ (l : Units). keys_in setup.suite setup.role setup.config (version_in l) (payloads_in l) p.sizes) (sym units_are) ∙ in_keys;
         sends_with = inner.speaks.keys ∙ out_keys;
         incoming_keys = in_keys;
         incoming_number = ap (λ (r : PacketReaderData). r.seq) reading ∙ ap (λ (l : Units). number_in setup.role setup.config (payloads_in l)) (sym units_are);
@@ -303,11 +306,11 @@ module _ (below : Below) (setup : Setup) where
   packets_at kept (input.Packets r) h s p a is = (r, refl)
 
   pub hands_over : (kept : StateData) (i : Input) (reader : PacketReader) → i ≡ input.Packets reader → (h s : List ℕ) (p : EndpointStands setup kept i h s) (a : AgreedData) → kept.end ≡ Authenticated a
-      → HandsOver setup.suite setup.role setup.config p.units p.answers (packet_reader_data reader) kept.sending
+      → HandsOver setup.suite setup.role setup.config p.units p.answers p.sizes (packet_reader_data reader) kept.sending
   hands_over kept (input.Lines r) reader same h s p a is = absurd cc
   hands_over kept (input.Packets r) reader same h s p a is =
       let e : r ≡ reader = cc in
-      subst (λ (x : PacketReader). HandsOver setup.suite setup.role setup.config p.units p.answers (packet_reader_data x) kept.sending) e (by_packets kept r h s p a is)
+      subst (λ (x : PacketReader). HandsOver setup.suite setup.role setup.config p.units p.answers p.sizes (packet_reader_data x) kept.sending) e (by_packets kept r h s p a is)
 
 -- an end that is authenticated
 pub authenticated_at : (e : End) (a : AgreedData) → end_data e ≡ Authenticated a → (agreed : Agreed) × (e ≡ end.Authenticated agreed)
@@ -336,7 +339,7 @@ module _ (below : Below) (setup : Setup) (kept : StateData) (i : Input) (h s : L
   abbrev keys : List UserKeyData
   keys = successful_keys_at setup (version_in p.units) (payloads_in p.units)
 
-  inner : IsInside setup p.units p.answers p.rest kept i
+  inner : IsInside setup p.units p.answers p.sizes p.rest kept i
   inner = inside below setup kept i h s p a is
 
   past : past_exchange kept.phase ≡ true
@@ -380,7 +383,7 @@ module _ (below : Below) (setup : Setup) (kept : StateData) (i : Input) (h s : L
     }
 
 -- what is made of what is handed over is the session
-pub session_is : (setup : Setup) (units answers : Units) (rest : List ℕ) (reading : PacketReaderData) (sending : Sending) → HandsOver setup.suite setup.role setup.config units answers reading sending → rest ≡ []
+pub session_is : (setup : Setup) (units answers : Units) (sizes rest : List ℕ) (reading : PacketReaderData) (sending : Sending) → HandsOver setup.suite setup.role setup.config units answers sizes reading sending → rest ≡ []
     → (agreed : Agreed) (a : AgreedData) → Authenticated (agreed_data agreed) ≡ Authenticated a → (own peer host_key : Vec ℕ Global) (accepted : Option Accepted) → HandsOn setup units a own.items peer.items host_key.items accepted
     → (keys : Option KeysData) (number : ℕ) → keys ≡ reading.keys → number ≡ reading.seq → (result : Option Session)
     → ((x y : KeysData) → keys ≡ Some x → sending.keys ≡ Some y → result ≡ Some (record {
@@ -392,8 +395,8 @@ pub session_is : (setup : Setup) (units answers : Units) (rest : List ℕ) (read
       incoming = record { keys = x; sequence_number = number };
       outgoing = record { keys = y; sequence_number = sending.number };
     }))
-    → (session : Session) × (result ≡ Some session) × IsSession setup units answers a session × (rest ≡ [])
-session_is setup units answers rest reading sending over none agreed a same own peer host_key accepted on keys number keys_are number_is result whole = (
+    → (session : Session) × (result ≡ Some session) × IsSession setup units answers sizes a session × (rest ≡ [])
+session_is setup units answers sizes rest reading sending over none agreed a same own peer host_key accepted on keys number keys_are number_is result whole = (
   record {
     agreed = agreed;
     own_version = own;

@@ -5,9 +5,10 @@ use Rattle.std.proofs.lemmas.Bool.{cases_Bool, true≢false}
 use Rattle.sshneg.specs.declared.side.Side.{Side}
 use Rattle.sshneg.specs.ExchangeEnd.{offer_in}
 use Rattle.sshpacket.specs.KeysData.{KeysData}
-use Rattle.sshpacket.specs.Places.{EachPlace, stands}
+use Rattle.sshpacket.specs.Places.{EachPlace, after_first, stands}
 use Rattle.sshpacket.specs.Stream.{Sent, Units}
 use Rattle.sshpacket.specs.Suite.{SuiteData}
+use Rattle.sshpacket.specs.Written.{after_all}
 use Rattle.sshpacket.proofs.Places.{first-append, flat-same, stands-append, stands-prefix}
 use Rattle.sshcore.specs.declared.table.Phase.TheVariants as phase
 use Rattle.sshcore.specs.Before.{first_kept, is_kexinit, kept, kexinit, offered, stood, strict_at, strict_towards}
@@ -87,8 +88,8 @@ module _ (m : SuiteData) (role : Side) (party : ConfigData) where
           → spells m role party us (party.version ∷ sent) payload ≡ spells m role party (us ++ more) (party.version ∷ sent) payload
       at [] (v, vs, e) r on = absurd cc
       at (v ∷ vs) w r on = rw on (
-          ap (λ (k : KeysData). spelled_by m (Some k) party.seed (number_out (strict_at role party vs) sent) payload) (sym (keys_stay v vs more role r))
-          ∙ ap (λ (b : Bool). spelled_by m (Some (keys_at m role party v (vs ++ more) role)) party.seed (number_out b sent) payload) (sym (strict_stays vs more r.offer)))
+          ap (λ (k : KeysData). spelled_by m (Some (after_all m k (after_first is_newkeys [] sent))) party.seed (number_out (strict_at role party vs) sent) payload) (sym (keys_stay v vs more role r))
+          ∙ ap (λ (b : Bool). spelled_by m (Some (after_all m (keys_at m role party v (vs ++ more) role) (after_first is_newkeys [] sent))) party.seed (number_out b sent) payload) (sym (strict_stays vs more r.offer)))
 
   each_stays : (units more before us : Units) → (switched_out (before ++ us) ≡ true → IsReady role party (payloads_in units))
       → EachPlace (λ b u. spells m role party units b u ≡ spells m role party (units ++ more) b u) (party.version ∷ before) us

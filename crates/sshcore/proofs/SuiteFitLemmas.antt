@@ -66,19 +66,26 @@ refused_first m i ds later f e = sym (in_turn m i ds later ∙ ap (λ (o : Optio
 pub refused_later : (m : SuiteData) (i : InventoryData) (ds later : List DemandData) → None ≡ suite_refusal m i ds → suite_refusal m i later ≡ suite_refusal m i (ds ++ later)
 refused_later m i ds later e = sym (in_turn m i ds later ∙ ap (λ (o : Option SuiteFaultData). option_or o (suite_refusal m i later)) (sym e))
 
--- the four lists of names
+-- the six lists of names
 pub names_in_turn : (m : SuiteData) (i : InventoryData) (side : SideData) (host_keys : List (List ℕ)) → suite_refusal m i (names_asked side host_keys)
     ≡ option_or (suite_refusal m i (named_in algorithms.Kex side.kex_algorithms))
     (option_or (suite_refusal m i (named_in algorithms.HostKey host_keys))
     (option_or (suite_refusal m i (named_in algorithms.EncryptionClientToServer side.encryption_client_to_server))
-    (suite_refusal m i (named_in algorithms.EncryptionServerToClient side.encryption_server_to_client))))
+    (option_or (suite_refusal m i (named_in algorithms.EncryptionServerToClient side.encryption_server_to_client))
+    (option_or (suite_refusal m i (named_in algorithms.MacClientToServer side.mac_client_to_server))
+    (suite_refusal m i (named_in algorithms.MacServerToClient side.mac_server_to_client))))))
 names_in_turn m i side host_keys =
     let kex = named_in algorithms.Kex side.kex_algorithms in
     let keys = named_in algorithms.HostKey host_keys in
     let to_server = named_in algorithms.EncryptionClientToServer side.encryption_client_to_server in
     let to_client = named_in algorithms.EncryptionServerToClient side.encryption_server_to_client in
-    in_turn m i kex (keys ++ (to_server ++ to_client))
-    ∙ ap (option_or (suite_refusal m i kex)) (in_turn m i keys (to_server ++ to_client) ∙ ap (option_or (suite_refusal m i keys)) (in_turn m i to_server to_client))
+    let mac_to_server = named_in algorithms.MacClientToServer side.mac_client_to_server in
+    let mac_to_client = named_in algorithms.MacServerToClient side.mac_server_to_client in
+    in_turn m i kex (keys ++ (to_server ++ (to_client ++ (mac_to_server ++ mac_to_client))))
+    ∙ ap (option_or (suite_refusal m i kex)) (in_turn m i keys (to_server ++ (to_client ++ (mac_to_server ++ mac_to_client)))
+    ∙ ap (option_or (suite_refusal m i keys)) (in_turn m i to_server (to_client ++ (mac_to_server ++ mac_to_client))
+    ∙ ap (option_or (suite_refusal m i to_server)) (in_turn m i to_client (mac_to_server ++ mac_to_client)
+    ∙ ap (option_or (suite_refusal m i to_client)) (in_turn m i mac_to_server mac_to_client))))
 
 -- a suite that isn't refused fits, and one that is doesn't
 none_told : (o : Option DemandData) → None ≡ option_map told_of o → o ≡ None
@@ -116,16 +123,18 @@ fits_not m i ds f e fit = some_none f (e ∙ all_met m i ds fit)
 pub client_named : (parts : ClientParts) (client : ClientData) → client_data parts ≡ client → IsClient client
     → AreNames (map string_bytes parts.side.kex_algorithms.items) × AreNames (map string_bytes parts.server_host_key_algorithms.items)
     × AreNames (map string_bytes parts.side.encryption_client_to_server.items) × AreNames (map string_bytes parts.side.encryption_server_to_client.items)
+    × AreNames (map string_bytes parts.side.mac_client_to_server.items) × AreNames (map string_bytes parts.side.mac_server_to_client.items)
 client_named parts client same is =
     let own : IsClient (client_data parts) = subst (λ (c : ClientData). IsClient c) (sym same) is in
-    let all = (own.keeps fault.Name).0 in (all.0, all.1.0, all.1.1.0, all.1.1.1.0)
+    let all = (own.keeps fault.Name).0 in (all.0, all.1.0, all.1.1.0, all.1.1.1.0, all.1.1.1.1.0, all.1.1.1.1.1.0)
 
 pub server_named : (parts : ServerParts) (server : ServerData) → server_data parts ≡ server → IsServer server
     → AreNames (map string_bytes parts.side.kex_algorithms.items) × AreNames (key_algorithms (map host_key_data parts.host_keys.items))
     × AreNames (map string_bytes parts.side.encryption_client_to_server.items) × AreNames (map string_bytes parts.side.encryption_server_to_client.items)
+    × AreNames (map string_bytes parts.side.mac_client_to_server.items) × AreNames (map string_bytes parts.side.mac_server_to_client.items)
 server_named parts server same is =
     let own : IsServer (server_data parts) = subst (λ (s : ServerData). IsServer s) (sym same) is in
-    let all = (own.keeps fault.Name).0 in (all.0, all.1.0, all.1.1.0, all.1.1.1.0)
+    let all = (own.keeps fault.Name).0 in (all.0, all.1.0, all.1.1.0, all.1.1.1.0, all.1.1.1.1.0, all.1.1.1.1.1.0)
 
 pub keys_short : (parts : ServerParts) (server : ServerData) → server_data parts ≡ server → IsServer server
     → AllByRecursion (λ (key : HostKeyData). length key.secret ≤ PRIVATE_KEY_LIMIT) (map host_key_data parts.host_keys.items)
@@ -138,14 +147,18 @@ side_judged : (m : SuiteData) (i : InventoryData) (side : SideData) (host_keys :
     → found ≡ option_or (suite_refusal m i (named_in algorithms.Kex side.kex_algorithms))
     (option_or own
     (option_or (suite_refusal m i (named_in algorithms.EncryptionClientToServer side.encryption_client_to_server))
-    (suite_refusal m i (named_in algorithms.EncryptionServerToClient side.encryption_server_to_client))))
+    (option_or (suite_refusal m i (named_in algorithms.EncryptionServerToClient side.encryption_server_to_client))
+    (option_or (suite_refusal m i (named_in algorithms.MacClientToServer side.mac_client_to_server))
+    (suite_refusal m i (named_in algorithms.MacServerToClient side.mac_server_to_client))))))
     → found ≡ suite_refusal m i (names_asked side host_keys)
 side_judged m i side host_keys own found own-is found-is =
     found-is
     ∙ (ap (λ (o : Option SuiteFaultData). option_or (suite_refusal m i (named_in algorithms.Kex side.kex_algorithms))
     (option_or o
     (option_or (suite_refusal m i (named_in algorithms.EncryptionClientToServer side.encryption_client_to_server))
-    (suite_refusal m i (named_in algorithms.EncryptionServerToClient side.encryption_server_to_client))))) own-is
+    (option_or (suite_refusal m i (named_in algorithms.EncryptionServerToClient side.encryption_server_to_client))
+    (option_or (suite_refusal m i (named_in algorithms.MacClientToServer side.mac_client_to_server))
+    (suite_refusal m i (named_in algorithms.MacServerToClient side.mac_server_to_client))))))) own-is
     ∙ sym (names_in_turn m i side host_keys))
 
 pub client_judged : (m : SuiteData) (i : InventoryData) (parts : ClientParts) (client : ClientData) (own found : Option SuiteFaultData) → client_data parts ≡ client
@@ -153,7 +166,9 @@ pub client_judged : (m : SuiteData) (i : InventoryData) (parts : ClientParts) (c
     → found ≡ option_or (suite_refusal m i (named_in algorithms.Kex (map string_bytes parts.side.kex_algorithms.items)))
     (option_or own
     (option_or (suite_refusal m i (named_in algorithms.EncryptionClientToServer (map string_bytes parts.side.encryption_client_to_server.items)))
-    (suite_refusal m i (named_in algorithms.EncryptionServerToClient (map string_bytes parts.side.encryption_server_to_client.items)))))
+    (option_or (suite_refusal m i (named_in algorithms.EncryptionServerToClient (map string_bytes parts.side.encryption_server_to_client.items)))
+    (option_or (suite_refusal m i (named_in algorithms.MacClientToServer (map string_bytes parts.side.mac_client_to_server.items)))
+    (suite_refusal m i (named_in algorithms.MacServerToClient (map string_bytes parts.side.mac_server_to_client.items)))))))
     → found ≡ suite_refusal m i (names_asked client.side client.host_key_algorithms)
 client_judged m i parts client own found same own-is found-is =
     side_judged m i (side_data parts.side) (map string_bytes parts.server_host_key_algorithms.items) own found own-is found-is
@@ -164,7 +179,9 @@ pub server_judged : (m : SuiteData) (i : InventoryData) (parts : ServerParts) (s
     → found ≡ option_or (suite_refusal m i (named_in algorithms.Kex (map string_bytes parts.side.kex_algorithms.items)))
     (option_or own
     (option_or (suite_refusal m i (named_in algorithms.EncryptionClientToServer (map string_bytes parts.side.encryption_client_to_server.items)))
-    (suite_refusal m i (named_in algorithms.EncryptionServerToClient (map string_bytes parts.side.encryption_server_to_client.items)))))
+    (option_or (suite_refusal m i (named_in algorithms.EncryptionServerToClient (map string_bytes parts.side.encryption_server_to_client.items)))
+    (option_or (suite_refusal m i (named_in algorithms.MacClientToServer (map string_bytes parts.side.mac_client_to_server.items)))
+    (suite_refusal m i (named_in algorithms.MacServerToClient (map string_bytes parts.side.mac_server_to_client.items)))))))
     → found ≡ suite_refusal m i (names_asked server.side (key_algorithms server.host_keys))
 server_judged m i parts server own found same own-is found-is =
     side_judged m i (side_data parts.side) (key_algorithms (map host_key_data parts.host_keys.items)) own found own-is found-is

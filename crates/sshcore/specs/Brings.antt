@@ -53,7 +53,7 @@ carried_after m d party known c payload = record c {
 pub record Gives (m : SuiteData) (seed : List ℕ) (strict : Bool) (next : KeysData) (old new : StateData) (before after : List ℕ) (r : Reply) : Type 0 where
   pub ends : new.end ≡ r.end
   pub output : after ≡ before ++ sent_from m seed strict next old.sending r.answers
-  pub sends : new.sending ≡ sending_from strict next old.sending r.answers
+  pub sends : new.sending ≡ sending_from m strict next old.sending r.answers
   pub fits : AllFit r.answers
 
 -- what it stands at after a payload

@@ -1,7 +1,7 @@
 -- How an endpoint reads what it receives and spells what it sends, unit by unit: RFC 4253 sections 4.2, 6, 7.2 and 7.3. Unit 0 of
 -- either direction is the text of a version line, and the others are payloads: `before` stands after the version here.
 
-use Rattle.std.specs.Prelude.{ℕ, if◌then◌else◌, List, [], ◌∷◌, ◌++◌, drop, flat_map, Option, None, Some}
+use Rattle.std.specs.Prelude.{ℕ, ◌-◌, if◌then◌else◌, List, [], ◌∷◌, ◌++◌, drop, flat_map, length, Option, None, Some}
 use Rattle.sshwire.specs.declared.limits.TheConstants.{OTHER_LINE_LIMIT}
 use Rattle.sshwire.specs.declared.line_form.LineForm.{LineForm}
 use Rattle.sshwire.specs.declared.line_form.LineForm.TheVariants as line_form
@@ -13,14 +13,15 @@ use Rattle.sshneg.specs.declared.side.Side.TheVariants.{Client, Server}
 use Rattle.sshneg.specs.Markers.{other}
 use Rattle.sshpacket.specs.KeysData.{KeysData}
 use Rattle.sshpacket.specs.Parse.{ProtectionData, parse_packet, protection}
+use Rattle.sshpacket.specs.Places.{after_first}
 use Rattle.sshpacket.specs.PreambleParser.{preamble_parser_by}
-use Rattle.sshpacket.specs.Stream.{Parser, Units}
-use Rattle.sshpacket.specs.Suite.{SuiteData}
-use Rattle.sshpacket.specs.Written.{written_clear, written_sealed}
+use Rattle.sshpacket.specs.Stream.{Parsers, Units}
+use Rattle.sshpacket.specs.Suite.{SuiteData, all_advanced}
+use Rattle.sshpacket.specs.Written.{after_all, written_clear, written_sealed}
 use Rattle.sshcore.specs.declared.config_parts.PeerReading.{PeerReading}
 use Rattle.sshcore.specs.declared.config_parts.PeerReading.TheVariants.{Strict, Deployed}
-use Rattle.sshcore.specs.Before.{stood, strict_at}
-use Rattle.sshcore.specs.Counting.{number_in, number_out, switched_out}
+use Rattle.sshcore.specs.Before.{since, stood, strict_at}
+use Rattle.sshcore.specs.Counting.{is_newkeys, number_in, number_out, switched_out}
 use Rattle.sshcore.specs.Exchange.{keys_at}
 use Rattle.sshcore.specs.EndpointParts.{ConfigData}
 
@@ -43,28 +44,33 @@ form_of Strict role = line_form.Strict
 form_of Deployed Client = line_form.Deployed read_by.Client
 form_of Deployed Server = line_form.Deployed read_by.Server
 
--- the keys of what is received: none up to the key switch, which is the first NEWKEYS that isn't dropped (RFC 4253 section 7.3)
-abbrev pub keys_in : SuiteData → Side → ConfigData → List ℕ → Units → Option KeysData
-keys_in m role party version before =
-    if stood role party.offer SSH_MSG_NEWKEYS before then Some (keys_at m role party version before (other role)) else None
+-- of the sizes of the units received, those of the packets since the key switch
+abbrev pub sizes_since : Side → ConfigData → Units → List ℕ → List ℕ
+sizes_since role party before sizes = drop (length sizes - since role party.offer SSH_MSG_NEWKEYS before) sizes
+
+-- The keys of what is received: none up to the key switch, which is the first NEWKEYS that isn't dropped (RFC 4253 section 7.3); then the
+-- exchange's, which advance with the size of each packet.
+abbrev pub keys_in : SuiteData → Side → ConfigData → List ℕ → Units → List ℕ → Option KeysData
+keys_in m role party version before sizes =
+    if stood role party.offer SSH_MSG_NEWKEYS before then Some (all_advanced m (keys_at m role party version before (other role)) (sizes_since role party before sizes)) else None
 
 -- how the next packet is protected
-abbrev pub protection_in : SuiteData → Side → ConfigData → List ℕ → Units → ProtectionData
-protection_in m role party version before = protection m (keys_in m role party version before) (number_in role party before)
+abbrev pub protection_in : SuiteData → Side → ConfigData → List ℕ → Units → List ℕ → ProtectionData
+protection_in m role party version before sizes = protection m (keys_in m role party version before sizes) (number_in role party before)
 
 -- how the next unit is read after these: lines first, then packets
-abbrev pub parsers : SuiteData → Side → ConfigData → Units → Parser
-parsers m role party [] = preamble_parser_by (form_of party.reading role) (others_of role)
-parsers m role party (version ∷ before) = parse_packet (protection_in m role party version before)
+abbrev pub parsers : SuiteData → Side → ConfigData → Parsers
+parsers m role party [] sizes = preamble_parser_by (form_of party.reading role) (others_of role)
+parsers m role party (version ∷ before) sizes = parse_packet (protection_in m role party version before sizes)
 
 -- the lines that are sent first: notices and the version line
 abbrev pub preamble_of : ConfigData → List ℕ
 preamble_of party = flat_map version_line party.notices ++ version_line party.version
 
--- the keys of what is sent: none up to the NEWKEYS that was sent, the exchange's after it
+-- the keys of what is sent: none up to the NEWKEYS that was sent, the exchange's after it, which advance with each packet
 abbrev pub keys_out : SuiteData → Side → ConfigData → Units → Units → Option KeysData
 keys_out m role party received sent =
-    if switched_out sent then Some (keys_at m role party (version_in received) (payloads_in received) role) else None
+    if switched_out sent then Some (after_all m (keys_at m role party (version_in received) (payloads_in received) role) (after_first is_newkeys [] sent)) else None
 
 -- a payload as a packet, in clear or sealed (RFC 4253 section 6)
 abbrev pub spelled_by : SuiteData → Option KeysData → List ℕ → ℕ → List ℕ → List ℕ

@@ -121,11 +121,11 @@ pub record StandsAfter (m : SuiteData) (role : Side) (party : ConfigData) (old n
 pub record AnswersInit (m : SuiteData) (role : Side) (party : ConfigData) (old new : StateData) (host_key shared hash reply before after : List ℕ) : Type 0 where
   pub output : let next = kex_keys m old.known.algorithms shared hash role in
       after ≡ ((before ++ spelled_by m old.sending.keys party.seed old.sending.number reply)
-      ++ spelled_by m old.sending.keys party.seed (with_packet old.sending).number (written_message NewKeys))
-      ++ sent_from m party.seed old.known.strict next (with_newkeys old.known.strict next (with_packet old.sending)) (told_by party old.known)
+      ++ spelled_by m (with_packet m reply old.sending).keys party.seed (with_packet m reply old.sending).number (written_message NewKeys))
+      ++ sent_from m party.seed old.known.strict next (with_newkeys old.known.strict next (with_packet m reply old.sending)) (told_by party old.known)
   pub stands : let next = kex_keys m old.known.algorithms shared hash role in
       StandsAfter m role party old new host_key shared hash
-      (sending_from old.known.strict next (with_newkeys old.known.strict next (with_packet old.sending)) (told_by party old.known))
+      (sending_from m old.known.strict next (with_newkeys old.known.strict next (with_packet m reply old.sending)) (told_by party old.known))
   pub fits : AllFit (told_by party old.known)
 
 -- the same of a client, which sends NEWKEYS and requests the service
@@ -133,7 +133,7 @@ pub record AcceptsReply (m : SuiteData) (role : Side) (party : ConfigData) (old 
   pub output : let o = with_newkeys old.known.strict (kex_keys m old.known.algorithms shared hash role) old.sending in
       after ≡ (before ++ spelled_by m old.sending.keys party.seed old.sending.number (written_message NewKeys))
       ++ spelled_by m o.keys party.seed o.number (written_message (ServiceRequest userauth))
-  pub stands : StandsAfter m role party old new host_key shared hash (with_packet (with_newkeys old.known.strict (kex_keys m old.known.algorithms shared hash role) old.sending))
+  pub stands : StandsAfter m role party old new host_key shared hash (with_packet m (written_message (ServiceRequest userauth)) (with_newkeys old.known.strict (kex_keys m old.known.algorithms shared hash role) old.sending))
 
 -- A client judges the signature over what both have given: it accepts, or fails.
 pub data JudgesReply (m : SuiteData) (role : Side) (party : ConfigData) (old new : StateData) (shares : SharesData) (signature before after : List ℕ) : Type 0 where

@@ -31,10 +31,10 @@ pub record IsReady (role : Side) (party : ConfigData) (payloads : Units) : Type 
   pub exchange : stood role party.offer (leaving role phase.Exchange) payloads ≡ true
 
 -- An endpoint that stands or ends so has received bytes that read as these units with a rest, which may be refused, and has sent
--- bytes that spell its version line and these answers. What was sent fits packets; it is sealed only where the exchange was
+-- bytes that spell its version line and these answers; the units received have these sizes. What was sent fits packets; it is sealed only where the exchange was
 -- received; and nothing was taken after the unit that ended the endpoint.
-pub record History (setup : Setup) (units : Units) (rest : List ℕ) (refusal : Option Refusal) (answers : Units) (end : EndData) (received_bytes sent_bytes : List ℕ) : Type 0 where
-  pub received : Received (parsers setup.suite setup.role setup.config) received_bytes units rest refusal
+pub record History (setup : Setup) (units : Units) (sizes rest : List ℕ) (refusal : Option Refusal) (answers : Units) (end : EndData) (received_bytes sent_bytes : List ℕ) : Type 0 where
+  pub received : Received (parsers setup.suite setup.role setup.config) received_bytes units sizes rest refusal
   pub sent : Sent (spells setup.suite setup.role setup.config units) sent_bytes (setup.config.version ∷ answers)
   pub replies : Replies setup units refusal answers end
   pub fits : AllFit answers
@@ -44,12 +44,13 @@ pub record History (setup : Setup) (units : Units) (rest : List ℕ) (refusal : 
 -- What was sent where memory ran out: whole packets, a prefix of the answers that would have been given.
 pub record BrokenOff (setup : Setup) (received_bytes sent_bytes : List ℕ) : Type 0 where
   pub units : Units
+  pub sizes : List ℕ
   pub rest : List ℕ
   pub refusal : Option Refusal
   pub answers : Units
   pub end : EndData
   pub some_answers : Units
-  pub received : Received (parsers setup.suite setup.role setup.config) received_bytes units rest refusal
+  pub received : Received (parsers setup.suite setup.role setup.config) received_bytes units sizes rest refusal
   pub replies : Replies setup units refusal answers end
   pub prefix : IsPrefix some_answers answers
   pub sent : Sent (spells setup.suite setup.role setup.config units) sent_bytes (setup.config.version ∷ some_answers)

@@ -51,12 +51,12 @@ turns_left (Disconnected reason) i = 0
 
 -- The reader of what is received: of lines, in the form that its config has, up to the version line; then of packets, with
 -- the keys and the number of the next one, and with the bytes of the unfinished one.
-abbrev pub IsInput : SuiteData → Side → ConfigData → Units → List ℕ → Input → Type 0
-IsInput m role party units rest (input.Lines reader) =
+abbrev pub IsInput : SuiteData → Side → ConfigData → Units → List ℕ → List ℕ → Input → Type 0
+IsInput m role party units sizes rest (input.Lines reader) =
     (units ≡ []) × StandsOpen (others_of role) rest reader.state.progress × (reader.form ≡ form_of party.reading role)
-IsInput m role party units rest (input.Packets reader) =
+IsInput m role party units sizes rest (input.Packets reader) =
     (version : List ℕ) × (before : Units) × (units ≡ version ∷ before)
-    × (packet_reader_data reader ≡ record { keys = keys_in m role party version before; seq = number_in role party before; held = rest; fault = None })
+    × (packet_reader_data reader ≡ record { keys = keys_in m role party version before sizes; seq = number_in role party before; held = rest; fault = None })
 
 -- the keys of what is received are kept from the exchange up to NEWKEYS
 abbrev pub pending_at : Phase → KeysData → Option KeysData
@@ -71,10 +71,10 @@ pub record IsCarried (setup : Setup) (version : List ℕ) (before : Units) (p : 
   pub user_key : carried.user_key ≡ last_key None (successful_keys_at setup version before)
 
 -- what an endpoint keeps agrees with what was received and sent, while its session goes on
-pub record IsInside (setup : Setup) (units answers : Units) (rest : List ℕ) (kept : StateData) (i : Input) : Type 0 where
+pub record IsInside (setup : Setup) (units answers : Units) (sizes rest : List ℕ) (kept : StateData) (i : Input) : Type 0 where
   pub sits : Sits setup (version_in units) (payloads_in units) kept.phase kept.guess kept.known
   pub form : HasForm setup.suite kept
-  pub reads : IsInput setup.suite setup.role setup.config units rest i
+  pub reads : IsInput setup.suite setup.role setup.config units sizes rest i
   pub carries : IsCarried setup (version_in units) (payloads_in units) kept.phase kept.carried
   pub speaks : Speaks setup.suite setup.role setup.config units answers kept.sending
 
@@ -87,13 +87,14 @@ pub data StandsSo (received_end end : EndData) : Type 0 where
 -- An endpoint that keeps this, with this reader, has received and sent these bytes; of one that left, what it sent before that.
 pub record EndpointStands (setup : Setup) (kept : StateData) (i : Input) (received_bytes sent_bytes : List ℕ) : Type 0 where
   pub units : Units
+  pub sizes : List ℕ
   pub rest : List ℕ
   pub refusal : Option Refusal
   pub answers : Units
   pub received_end : EndData
-  pub history : History setup units rest refusal answers received_end received_bytes sent_bytes
+  pub history : History setup units sizes rest refusal answers received_end received_bytes sent_bytes
   pub ends : StandsSo received_end kept.end
-  pub inside : IsOngoing kept.end → IsInside setup units answers rest kept i
+  pub inside : IsOngoing kept.end → IsInside setup units answers sizes rest kept i
 
 -- An endpoint that goes on from here has received these bytes more, and sent what was appended; its owner didn't end it.
 pub record GoesOn (setup : Setup) (new : StateData) (j : Input) (h s taken before after : List ℕ) : Type 0 where

@@ -11,20 +11,22 @@ use Rattle.sshpacket.specs.KeysData.{KeysData}
 use Rattle.sshpacket.specs.Parse.{unfinished}
 use Rattle.sshpacket.specs.ProtectedPacket.{IsProtectedPacket, PacketMeans, Refuses}
 use Rattle.sshpacket.specs.PacketReaderData.{IsStep, PacketAnswer, ReaderWaits, last_used, packet_reader_data, protection_at}
-use Rattle.sshpacket.specs.Suite.{SuiteData}
-use Rattle.sshpacket.specs.Written.{IsWritten, written, written_sealed}
+use Rattle.sshpacket.specs.Suite.{SuiteData, next_keys}
+use Rattle.sshpacket.specs.Written.{IsWritten, after_sealed, written, written_sealed}
 use Rattle.sshcore.specs.declared.session.Direction.{Direction}
 use Rattle.sshcore.specs.declared.link.Link.{Link}
-use Rattle.sshcore.specs.declared.link.TheConstants.{LINK_LIMIT}
+use Rattle.sshcore.specs.declared.link.TheConstants.{LINK_BYTES_LIMIT, LINK_LIMIT}
 use Rattle.sshcore.specs.declared.link_fault.LinkFault.{LinkFault}
 use Rattle.sshcore.specs.declared.link_fault.LinkFault.TheVariants as fault
 
--- what it seals with: the keys, the number of the next packet, what padding is made of; and how many packets it has sealed
+-- what it seals with: the keys, the number of the next packet, what padding is made of; how many packets it has sealed, and how many
+-- bytes they had
 pub record Outgoing : Type 0 where
   pub keys : KeysData
   pub number : ℕ
   pub seed : List ℕ
   pub sealed : ℕ
+  pub bytes : ℕ
 
 -- what it opens with, its reader; and how many packets it has opened
 pub record Incoming : Type 0 where
@@ -38,14 +40,14 @@ packet_ended [] (suc n) = 1
 packet_ended (b ∷ held) n = 0
 
 unfoldable pub outgoing_of : Link → Outgoing
-outgoing_of l = record { keys = l.keys; number = l.number; seed = l.seed; sealed = l.sealed }
+outgoing_of l = record { keys = l.keys; number = l.number; seed = l.seed; sealed = l.sealed; bytes = l.sealed_bytes }
 
 unfoldable pub incoming_of : Link → Incoming
 incoming_of l = record { reader = l.reader; opened = l.opened + packet_ended (packet_reader_data l.reader).held (last_used l.reader) }
 
 -- at the beginning, by what a session has of this direction
 abbrev pub sent_by : Direction → List ℕ → Outgoing
-sent_by direction seed = record { keys = direction.keys; number = direction.sequence_number; seed = seed; sealed = 0 }
+sent_by direction seed = record { keys = direction.keys; number = direction.sequence_number; seed = seed; sealed = 0; bytes = 0 }
 
 pub record BeginsBy (direction : Direction) (i : Incoming) : Type 0 where
   pub state_is : packet_reader_data i.reader ≡ record { keys = Some direction.keys; seq = direction.sequence_number; held = []; fault = None }
@@ -56,31 +58,32 @@ pub record BeginsBy (direction : Direction) (i : Incoming) : Type 0 where
 abbrev pub LinkWaits : SuiteData → Incoming → Type 0
 LinkWaits m i = ReaderWaits m i.reader
 
--- after a packet was sealed: the next number, in 32 bits, and one packet more
-abbrev pub raised : Outgoing → Outgoing
-raised o = record o { number = (o.number + 1) % 2 ^ 32; sealed = o.sealed + 1 }
-
--- after so many packets
-abbrev pub raised_times : ℕ → Outgoing → Outgoing
-raised_times zero o = o
-raised_times (suc n) o = raised (raised_times n o)
-
--- a payload can be sealed: it has 1 to 32768 bytes, and the keys aren't used up
+-- a payload can be sealed: it has 1 to 32768 bytes, and the keys are used up neither by packets nor by bytes
 pub record CanSeal (o : Outgoing) (payload : List ℕ) : Type 0 where
   pub some : 0 < length payload
   pub short : length payload ≤ PAYLOAD_LIMIT
   pub left : o.sealed < LINK_LIMIT
+  pub bytes_left : o.bytes < LINK_BYTES_LIMIT
 
 -- why it isn't sealed
 abbrev pub SealRefused : Outgoing → List ℕ → LinkFault → Type 0
 SealRefused o payload fault.Payload = (payload ≡ []) ⊎ (PAYLOAD_LIMIT < length payload)
-SealRefused o payload fault.UsedUp = (0 < length payload) × (length payload ≤ PAYLOAD_LIMIT) × (LINK_LIMIT ≤ o.sealed)
+SealRefused o payload fault.UsedUp = (0 < length payload) × (length payload ≤ PAYLOAD_LIMIT) × ((LINK_LIMIT ≤ o.sealed) ⊎ (LINK_BYTES_LIMIT ≤ o.bytes))
 SealRefused o payload (fault.Packet f) = ⊥
 SealRefused o payload fault.Memory = CanSeal o payload
 
 -- the packet of a payload, sealed
 abbrev pub sealed_by : SuiteData → Outgoing → List ℕ → List ℕ
 sealed_by m o payload = written_sealed m o.keys o.seed o.number payload
+
+-- after it: the next keys, the next number, in 32 bits, one packet more, and its bytes
+abbrev pub raised : SuiteData → List ℕ → Outgoing → Outgoing
+raised m payload o = record o { keys = after_sealed m o.keys payload; number = (o.number + 1) % 2 ^ 32; sealed = o.sealed + 1; bytes = o.bytes + length (sealed_by m o payload) }
+
+-- after those of these payloads, of which the last stands first
+abbrev pub raised_by : SuiteData → List (List ℕ) → Outgoing → Outgoing
+raised_by m [] o = o
+raised_by m (p ∷ ps) o = raised m p (raised_by m ps o)
 
 -- what is sealed in it is a packet of the payload with the least padding
 abbrev pub IsSealed : SuiteData → Outgoing → List ℕ → Type 0
@@ -122,13 +125,13 @@ pub record OnlyOpenAnswer (m : SuiteData) (i : Incoming) (piece : List ℕ) (res
   pub refused : (f : PacketFault) (place : ℕ) → Refuses (protection_at m (packet_reader_data i.reader)) ((packet_reader_data i.reader).held ++ piece) f place
       → (result ≡ Err (fault.Packet f)) ⊎ (result ≡ Err fault.Memory)
 
--- How what it opens with is left: with all unfinished bytes; after a packet with none, the next number, in 32 bits, and one packet
--- more; after a refusal with the fault, which is told from then on with nothing changed, and with one packet more at the most.
+-- How what it opens with is left: with all unfinished bytes; after a packet with none, the next keys, the next number, in 32 bits, and
+-- one packet more; after a refusal with the fault, which is told from then on with nothing changed, and with one packet more at the most.
 abbrev pub LinkLeaves : SuiteData → Incoming → List ℕ → Result PacketStep LinkFault → Incoming → Type 0
 LinkLeaves m i piece (Ok More) new =
     (packet_reader_data new.reader ≡ record (packet_reader_data i.reader) { held = (packet_reader_data i.reader).held ++ piece }) × (new.opened ≡ i.opened) × LinkWaits m new
 LinkLeaves m i piece (Ok (Payload payload seq used)) new =
-    (packet_reader_data new.reader ≡ record (packet_reader_data i.reader) { held = []; seq = ((packet_reader_data i.reader).seq + 1) % 2 ^ 32 }) × (new.opened ≡ i.opened + 1) × LinkWaits m new
+    (packet_reader_data new.reader ≡ record (packet_reader_data i.reader) { keys = next_keys m (packet_reader_data i.reader).keys (length (packet_reader_data i.reader).held + used); held = []; seq = ((packet_reader_data i.reader).seq + 1) % 2 ^ 32 }) × (new.opened ≡ i.opened + 1) × LinkWaits m new
 LinkLeaves m i piece (Err fault.Payload) new = ⊥
 LinkLeaves m i piece (Err fault.UsedUp) new = ⊥
 LinkLeaves m i piece (Err (fault.Packet f)) new =

@@ -7,6 +7,7 @@ use Rattle.sshneg.specs.declared.side.Side.{Side}
 use Rattle.sshpacket.specs.KeysData.{KeysData}
 use Rattle.sshpacket.specs.Stream.{Units}
 use Rattle.sshpacket.specs.Suite.{SuiteData}
+use Rattle.sshpacket.specs.Written.{after_sealed}
 use Rattle.sshcore.specs.Before.{strict_at}
 use Rattle.sshcore.specs.Counting.{number_out}
 use Rattle.sshcore.specs.Directions.{keys_out, payloads_in, spelled_by}
@@ -17,32 +18,37 @@ pub record Sending : Type 0 where
   pub keys : Option KeysData
   pub number : ℕ
 
+-- the keys of the next packet, after that of this payload
+abbrev pub keys_after : SuiteData → Option KeysData → List ℕ → Option KeysData
+keys_after m None payload = None
+keys_after m (Some keys) payload = Some (after_sealed m keys payload)
+
 -- with one packet more
-abbrev pub with_packet : Sending → Sending
-with_packet o = record { keys = o.keys; number = (o.number + 1) % 2 ^ 32 }
+abbrev pub with_packet : SuiteData → List ℕ → Sending → Sending
+with_packet m payload o = record { keys = keys_after m o.keys payload; number = (o.number + 1) % 2 ^ 32 }
 
 -- after a NEWKEYS: these keys, and number 0 where the endpoint is strict
 abbrev pub with_newkeys : Bool → KeysData → Sending → Sending
 with_newkeys strict next o = record { keys = Some next; number = if strict then 0 else (o.number + 1) % 2 ^ 32 }
 
 -- by the keys so far and whether the payload is a NEWKEYS
-abbrev pub sending_by : Option KeysData → Bool → Bool → KeysData → Sending → Sending
-sending_by (Some keys) newkeys strict next o = with_packet o
-sending_by None newkeys strict next o = if newkeys then with_newkeys strict next o else with_packet o
+abbrev pub sending_by : SuiteData → Option KeysData → Bool → Bool → KeysData → List ℕ → Sending → Sending
+sending_by m (Some keys) newkeys strict next payload o = with_packet m payload o
+sending_by m None newkeys strict next payload o = if newkeys then with_newkeys strict next o else with_packet m payload o
 
 -- after a payload; the first NEWKEYS alone brings keys, since there is one exchange (profile)
-abbrev pub after_sending : Bool → KeysData → Sending → List ℕ → Sending
-after_sending strict next o payload = sending_by o.keys (kind payload == SSH_MSG_NEWKEYS) strict next o
+abbrev pub after_sending : SuiteData → Bool → KeysData → Sending → List ℕ → Sending
+after_sending m strict next o payload = sending_by m o.keys (kind payload == SSH_MSG_NEWKEYS) strict next payload o
 
 -- payloads sent one after another
 unfoldable pub sent_from : SuiteData → List ℕ → Bool → KeysData → Sending → Units → List ℕ
 sent_from m seed strict next o [] = []
-sent_from m seed strict next o (a ∷ more) = spelled_by m o.keys seed o.number a ++ sent_from m seed strict next (after_sending strict next o a) more
+sent_from m seed strict next o (a ∷ more) = spelled_by m o.keys seed o.number a ++ sent_from m seed strict next (after_sending m strict next o a) more
 
 -- and what the next are sent with
-unfoldable pub sending_from : Bool → KeysData → Sending → Units → Sending
-sending_from strict next o [] = o
-sending_from strict next o (a ∷ more) = sending_from strict next (after_sending strict next o a) more
+unfoldable pub sending_from : SuiteData → Bool → KeysData → Sending → Units → Sending
+sending_from m strict next o [] = o
+sending_from m strict next o (a ∷ more) = sending_from m strict next (after_sending m strict next o a) more
 
 -- what is kept is what was received and sent: the keys and the number of the next packet
 pub record Speaks (m : SuiteData) (role : Side) (party : ConfigData) (units sent : Units) (o : Sending) : Type 0 where

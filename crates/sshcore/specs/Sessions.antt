@@ -34,14 +34,14 @@ HasAccepted m d Server party version before a (Some accepted) =
 
 -- The session of an endpoint that has received these units and sent these payloads: what was agreed; both version lines; the
 -- server's public host key, which is the exchange's; how the user was accepted; and of each direction the keys that are in use,
--- which are the exchange's, and the number of the next packet.
-pub record IsSession (setup : Setup) (units sent : Units) (agreed : AgreedData) (session : Session) : Type 0 where
+-- which are the exchange's and advance, and the number of the next packet.
+pub record IsSession (setup : Setup) (units sent : Units) (sizes : List ℕ) (agreed : AgreedData) (session : Session) : Type 0 where
   pub agreed_is : agreed_data session.agreed ≡ agreed
   pub own_version : session.own_version.items ≡ setup.config.version
   pub peer_version : session.peer_version.items ≡ version_in units
   pub host_key : session.host_key.items ≡ (exchange_at setup.suite setup.role setup.config (version_in units) (payloads_in units)).host_key
   pub accepted : HasAccepted setup.suite setup.decisions setup.role setup.config (version_in units) (payloads_in units) agreed session.accepted
-  pub incoming_keys : keys_in setup.suite setup.role setup.config (version_in units) (payloads_in units) ≡ Some session.incoming.keys
+  pub incoming_keys : keys_in setup.suite setup.role setup.config (version_in units) (payloads_in units) sizes ≡ Some session.incoming.keys
   pub incoming_number : session.incoming.sequence_number ≡ number_in setup.role setup.config (payloads_in units)
   pub outgoing_keys : keys_out setup.suite setup.role setup.config units sent ≡ Some session.outgoing.keys
   pub outgoing_number : session.outgoing.sequence_number ≡ number_out (strict_at setup.role setup.config (payloads_in units)) sent

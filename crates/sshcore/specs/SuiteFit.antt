@@ -16,12 +16,14 @@ pub data DemandData : Type 0 where
   Named : AlgorithmList → List ℕ → DemandData
   Held : ℕ → List ℕ → List ℕ → DemandData
 
--- whether the suite has an algorithm: a method and a cipher by its inventory, a host key algorithm where it signs
+-- whether the suite has an algorithm: a method, a cipher and a MAC by its inventory, a host key algorithm where it signs
 abbrev pub has_algorithm : SuiteData → InventoryData → AlgorithmList → List ℕ → Bool
 has_algorithm m i algorithms.Kex name = i.has_kex name
 has_algorithm m i algorithms.HostKey name = (m.can name).signature
 has_algorithm m i algorithms.EncryptionClientToServer name = i.has_cipher name
 has_algorithm m i algorithms.EncryptionServerToClient name = i.has_cipher name
+has_algorithm m i algorithms.MacClientToServer name = i.has_mac name
+has_algorithm m i algorithms.MacServerToClient name = i.has_mac name
 
 -- whether the suite has what is asked for
 abbrev pub meets : SuiteData → InventoryData → DemandData → Bool
@@ -32,13 +34,14 @@ meets m i (Held position algorithm secret) = m.holds algorithm secret
 abbrev pub named_in : AlgorithmList → List (List ℕ) → List DemandData
 named_in list names = map (Named list) names
 
--- The names of a side with these host key algorithms, list by list in the order of a KEXINIT. MACs aren't asked for, since each
--- cipher that is deployed has a tag of its own, beside which a MAC is named and not used.
+-- the names of a side with these host key algorithms, list by list in the order of a KEXINIT
 abbrev pub names_asked : SideData → List (List ℕ) → List DemandData
 names_asked side host_keys =
     named_in algorithms.Kex side.kex_algorithms ++ (named_in algorithms.HostKey host_keys
     ++ (named_in algorithms.EncryptionClientToServer side.encryption_client_to_server
-    ++ named_in algorithms.EncryptionServerToClient side.encryption_server_to_client))
+    ++ (named_in algorithms.EncryptionServerToClient side.encryption_server_to_client
+    ++ (named_in algorithms.MacClientToServer side.mac_client_to_server
+    ++ named_in algorithms.MacServerToClient side.mac_server_to_client))))
 
 -- the private keys of host keys, of which the first has this position
 abbrev pub host_keys_asked : ℕ → List HostKeyData → List DemandData

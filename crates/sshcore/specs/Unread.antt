@@ -7,7 +7,7 @@ use Rattle.sshpacket.specs.declared.reader.PacketReader.{PacketReader}
 use Rattle.sshpacket.specs.KeysData.{KeysData}
 use Rattle.sshpacket.specs.PacketReaderData.{PacketReaderData, ahead, packet_reader_data}
 use Rattle.sshpacket.specs.Parse.{whole}
-use Rattle.sshpacket.specs.Suite.{SuiteData}
+use Rattle.sshpacket.specs.Suite.{SuiteData, next_keys}
 use Rattle.sshcore.specs.declared.input.Input.{Input}
 use Rattle.sshcore.specs.declared.input.Input.TheVariants as input
 use Rattle.sshcore.specs.AskingData.{WaitingData}
@@ -21,7 +21,7 @@ use Rattle.sshcore.specs.Questions.{AnswerData, decided, question_at}
 use Rattle.sshcore.specs.StateData.{StateData, keys_due, keys_left}
 
 -- From `i` a packet was read with the last of these bytes, and the reader stands at `j`: nothing is held, and the next packet has the
--- next number (RFC 4253 section 6.4). Nothing more was done with it.
+-- next keys and the next number (RFC 4253 section 6.4). Nothing more was done with it.
 pub record ReadsPacket (m : SuiteData) (i j : Input) (w : WaitingData) (taken : List ℕ) : Type 0 where
   pub before : PacketReader
   pub after : PacketReader
@@ -29,7 +29,11 @@ pub record ReadsPacket (m : SuiteData) (i j : Input) (w : WaitingData) (taken : 
   pub is : j ≡ input.Packets after
   pub reads : ahead m (packet_reader_data before) taken ≡ whole w.payload (length (packet_reader_data before).held + length taken)
   pub number : w.packet ≡ (packet_reader_data before).seq
-  pub left : packet_reader_data after ≡ record (packet_reader_data before) { held = []; seq = ((packet_reader_data before).seq + 1) % 2 ^ 32 }
+  pub left : packet_reader_data after ≡ record (packet_reader_data before) {
+    keys = next_keys m (packet_reader_data before).keys (length (packet_reader_data before).held + length taken);
+    held = [];
+    seq = ((packet_reader_data before).seq + 1) % 2 ^ 32;
+  }
 
 -- What was received is all that was acted upon; or, where a packet waits for its answer, that and the bytes of the packet.
 abbrev pub IsUnread : SuiteData → Input → List ℕ → Option WaitingData → Input → List ℕ → Type 0

@@ -148,7 +148,7 @@ impl<S: Suite, L: Listener> AskingEndpoint<'_, S, L> {
     /// [`feed`](AskingEndpoint::feed) has used. Takes no memory.
     pub fn into_session(self) -> Option<Session>
         ensures session { (d : DecisionsData) (h s : List ℕ) (p : AskingAfter S.meaning d self.entry h s) (a : AgreedData) → asking_end self.entry ≡ Authenticated a
-            → (session : Session) × (result ≡ Some session) × IsSession (asking_setup S.meaning d self.entry) p.stands.units p.stands.answers a session
+            → (session : Session) × (result ≡ Some session) × IsSession (asking_setup S.meaning d self.entry) p.stands.units p.stands.answers p.stands.sizes a session
             × (p.stands.rest ≡ []) × (p.earlier ≡ h) }
         ensures none { ((a : AgreedData) → asking_end self.entry ≢ Authenticated a) → result ≡ None }
     {

@@ -350,7 +350,7 @@ impl<'a, S: Suite, D: Decisions> Endpoint<'a, S, D> {
     /// used. Takes no memory.
     pub fn into_session(self) -> Option<Session>
         ensures session { (h s : List ℕ) (p : EndpointAfter S.meaning D.policy self.entry h s) (a : AgreedData) → endpoint_end self.entry ≡ Authenticated a
-            → (session : Session) × (result ≡ Some session) × IsSession (endpoint_setup S.meaning D.policy self.entry) p.units p.answers a session × (p.rest ≡ []) }
+            → (session : Session) × (result ≡ Some session) × IsSession (endpoint_setup S.meaning D.policy self.entry) p.units p.answers p.sizes a session × (p.rest ≡ []) }
         ensures none { ((a : AgreedData) → endpoint_end self.entry ≢ Authenticated a) → result ≡ None }
     {
         sshmsg::numbers_law();

@@ -108,7 +108,7 @@ pub fn standing_law()
         → line_reply setup (record known { shares = form }) packet (line_by setup.role phase.KexInit known.strict false (is_waiting known.left) (kind payload)) payload
         ≡ line_reply setup known packet (line_by setup.role phase.KexInit known.strict false (is_waiting known.left) (kind payload)) payload }
 
-    // The keys of both directions come of the exchange message, and stay.
+    // The keys with which both directions begin come of the exchange message, and stay.
     ensures makes_keys { (setup : Setup) (version : List ℕ) (before : Units) (payload : List ℕ) (known : Known)
         → Sits setup version before phase.Exchange false known → kind payload ≡ leaving setup.role phase.Exchange → (sender : Side)
         → keys_at setup.suite setup.role setup.config version (before ++ payload ∷ []) sender ≡ keys_by setup.suite known.algorithms (exchange_received setup.suite setup.role setup.config known payload) sender }
@@ -155,40 +155,40 @@ pub fn sending_law()
 /// refusal, or a unit with its answers. That NEWKEYS is sent only where the exchange was received comes of
 /// the definitions; that the answers fit packets is for the code to see to.
 pub fn history_law()
-    ensures parsers { (m : SuiteData) (role : Side) (party : ConfigData) (units : Units) → IsIncremental (parsers m role party units) }
+    ensures parsers { (m : SuiteData) (role : Side) (party : ConfigData) (units : Units) (sizes : List ℕ) → IsIncremental (parsers m role party units sizes) }
     ensures begins { (setup : Setup) → AllFit (making setup.suite setup.role setup.config)
-        → History setup [] [] None (making setup.suite setup.role setup.config) Open [] (flat_places (spells setup.suite setup.role setup.config []) [] (setup.config.version ∷ making setup.suite setup.role setup.config)) }
-    ensures part { (setup : Setup) (units : Units) (rest : List ℕ) (answers : Units) (h s : List ℕ)
-        → History setup units rest None answers Open h s → (piece : List ℕ) → parsers setup.suite setup.role setup.config units (rest ++ piece) ≡ unfinished
-        → History setup units (rest ++ piece) None answers Open (h ++ piece) s }
-    ensures refusal { (setup : Setup) (units : Units) (rest : List ℕ) (answers : Units) (h s : List ℕ)
-        → History setup units rest None answers Open h s → (piece : List ℕ) (used : ℕ) (r : Refusal) → used ≤ length piece
-        → parsers setup.suite setup.role setup.config units (rest ++ piece) ≡ refused r (length rest + used) → AllFit (disconnect (fault_of r))
-        → History setup units (rest ++ take used piece) (Some r) (answers ++ disconnect (fault_of r)) (Failed (fault_of r)) (h ++ take used piece)
+        → History setup [] [] [] None (making setup.suite setup.role setup.config) Open [] (flat_places (spells setup.suite setup.role setup.config []) [] (setup.config.version ∷ making setup.suite setup.role setup.config)) }
+    ensures part { (setup : Setup) (units : Units) (sizes rest : List ℕ) (answers : Units) (h s : List ℕ)
+        → History setup units sizes rest None answers Open h s → (piece : List ℕ) → parsers setup.suite setup.role setup.config units sizes (rest ++ piece) ≡ unfinished
+        → History setup units sizes (rest ++ piece) None answers Open (h ++ piece) s }
+    ensures refusal { (setup : Setup) (units : Units) (sizes rest : List ℕ) (answers : Units) (h s : List ℕ)
+        → History setup units sizes rest None answers Open h s → (piece : List ℕ) (used : ℕ) (r : Refusal) → used ≤ length piece
+        → parsers setup.suite setup.role setup.config units sizes (rest ++ piece) ≡ refused r (length rest + used) → AllFit (disconnect (fault_of r))
+        → History setup units sizes (rest ++ take used piece) (Some r) (answers ++ disconnect (fault_of r)) (Failed (fault_of r)) (h ++ take used piece)
         (s ++ flat_places (spells setup.suite setup.role setup.config units) (setup.config.version ∷ answers) (disconnect (fault_of r))) }
-    ensures unit { (setup : Setup) (units : Units) (rest : List ℕ) (answers : Units) (h s : List ℕ)
-        → History setup units rest None answers Open h s → (piece u : List ℕ) (used : ℕ) → used ≤ length piece
-        → parsers setup.suite setup.role setup.config units (rest ++ piece) ≡ whole u (length rest + used) → AllFit (answers_at setup units u)
-        → History setup (units ++ u ∷ []) [] None (answers ++ answers_at setup units u) (end_at setup units u) (h ++ take used piece)
+    ensures unit { (setup : Setup) (units : Units) (sizes rest : List ℕ) (answers : Units) (h s : List ℕ)
+        → History setup units sizes rest None answers Open h s → (piece u : List ℕ) (used : ℕ) → used ≤ length piece
+        → parsers setup.suite setup.role setup.config units sizes (rest ++ piece) ≡ whole u (length rest + used) → AllFit (answers_at setup units u)
+        → History setup (units ++ u ∷ []) (sizes ++ (length rest + used) ∷ []) [] None (answers ++ answers_at setup units u) (end_at setup units u) (h ++ take used piece)
         (s ++ flat_places (spells setup.suite setup.role setup.config (units ++ u ∷ [])) (setup.config.version ∷ answers) (answers_at setup units u)) }
 
     // Where memory runs out: before anything was sent, or after some of the answers to a unit.
-    ensures broken { (setup : Setup) (units : Units) (rest : List ℕ) (r : Option Refusal) (answers : Units) (end : EndData) (h s : List ℕ)
-        → History setup units rest r answers end h s → BrokenOff setup h s }
-    ensures breaks { (setup : Setup) (units : Units) (rest : List ℕ) (answers : Units) (h s : List ℕ)
-        → History setup units rest None answers Open h s → (piece u : List ℕ) (used : ℕ) (some : Units) → used ≤ length piece
-        → parsers setup.suite setup.role setup.config units (rest ++ piece) ≡ whole u (length rest + used) → IsPrefix some (answers_at setup units u)
+    ensures broken { (setup : Setup) (units : Units) (sizes rest : List ℕ) (r : Option Refusal) (answers : Units) (end : EndData) (h s : List ℕ)
+        → History setup units sizes rest r answers end h s → BrokenOff setup h s }
+    ensures breaks { (setup : Setup) (units : Units) (sizes rest : List ℕ) (answers : Units) (h s : List ℕ)
+        → History setup units sizes rest None answers Open h s → (piece u : List ℕ) (used : ℕ) (some : Units) → used ≤ length piece
+        → parsers setup.suite setup.role setup.config units sizes (rest ++ piece) ≡ whole u (length rest + used) → IsPrefix some (answers_at setup units u)
         → BrokenOff setup (h ++ take used piece) (s ++ flat_places (spells setup.suite setup.role setup.config (units ++ u ∷ [])) (setup.config.version ∷ answers) some) }
 
     // The bytes used decide the units, the rest, the answers, the end and the bytes sent. And one input decides the bytes used: an
     // endpoint uses some bytes at the front of its input, and all of them while it stands open.
-    ensures one { (setup : Setup) (units other_units : Units) (rest other_rest : List ℕ) (r other_r : Option Refusal)
+    ensures one { (setup : Setup) (units other_units : Units) (sizes other_sizes rest other_rest : List ℕ) (r other_r : Option Refusal)
         (answers other_answers : Units) (end other_end : EndData) (h s t : List ℕ)
-        → History setup units rest r answers end h s → History setup other_units other_rest other_r other_answers other_end h t
+        → History setup units sizes rest r answers end h s → History setup other_units other_sizes other_rest other_r other_answers other_end h t
         → IsOneHistory units other_units rest other_rest r other_r answers other_answers end other_end s t }
-    ensures joined { (setup : Setup) (units other_units : Units) (rest other_rest : List ℕ) (r other_r : Option Refusal)
+    ensures joined { (setup : Setup) (units other_units : Units) (sizes other_sizes rest other_rest : List ℕ) (r other_r : Option Refusal)
         (answers other_answers : Units) (end other_end : EndData) (h g s t x y : List ℕ)
-        → History setup units rest r answers end h s → History setup other_units other_rest other_r other_answers other_end g t
+        → History setup units sizes rest r answers end h s → History setup other_units other_sizes other_rest other_r other_answers other_end g t
         → h ++ x ≡ g ++ y → (end ≡ Open → x ≡ []) → (other_end ≡ Open → y ≡ [])
         → (h ≡ g) × IsOneHistory units other_units rest other_rest r other_r answers other_answers end other_end s t }
 {

@@ -108,7 +108,7 @@ pub use law::{
     authentication_law, history_law, reached_law, sending_law, standing_law, strict_law,
 };
 pub use limits_laws::limits_law;
-pub use link::{LINK_LIMIT, Link};
+pub use link::{LINK_BYTES_LIMIT, LINK_LIMIT, Link};
 pub use link_fault::LinkFault;
 pub use link_laws::link_law;
 pub use notice::Notice;

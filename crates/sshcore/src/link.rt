@@ -2,7 +2,7 @@
 
 use crate::link_fault::{LinkFault, told_fault};
 use crate::session::Direction;
-use sshpacket::{Keys, PacketReader, PacketStep, Suite, write_sealed};
+use sshpacket::{Keys, PacketReader, PacketStep, Suite, write_next};
 use sshwire::PAYLOAD_LIMIT;
 use std::alloc::Global;
 
@@ -21,6 +21,13 @@ use std::alloc::Global;
 /// 3.1 after 2^31 packets. They aren't made here: end the connection then.
 pub const LINK_LIMIT: u32 = 0x8000_0000;
 
+/// Once the packets that a link has sealed have so many bytes it seals no more: 2^35 (profile).
+///
+/// They are 2^31 blocks of 16 bytes, half of the 2^32 after which RFC 4344 section 3.2 wants new keys of a cipher with such blocks: the
+/// other half is for the packets that went before with the same keys, and for the last of a link. The bytes that are opened the peer
+/// has to bound.
+pub const LINK_BYTES_LIMIT: u64 = 0x8_0000_0000;
+
 /// Both directions of a session: it seals payloads for the peer, and opens what the peer sends.
 ///
 /// Each packet that is sealed has the next number, and so does each that is opened, so no caller counts. What
@@ -29,7 +36,7 @@ pub const LINK_LIMIT: u32 = 0x8000_0000;
 #[derive(Drop)]
 pub struct Link {
     alloc: Global,
-    /// What is sealed with.
+    /// What the next packet is sealed with.
     keys: Keys,
     /// The number of the next packet that is sealed.
     number: u32,
@@ -37,6 +44,8 @@ pub struct Link {
     seed: [u8; 32],
     /// How many packets were sealed.
     sealed: u32,
+    /// How many bytes they had.
+    sealed_bytes: u64,
     reader: PacketReader,
     /// How many packets the reader had come to the end of before it was last asked.
     opened: u32,
@@ -69,14 +78,16 @@ impl Link {
             number: outgoing.sequence_number,
             seed,
             sealed: 0,
+            sealed_bytes: 0,
             reader: PacketReader::with_keys(alloc, incoming.keys, incoming.sequence_number),
             opened: 0,
         }
     }
 
-    /// Appends the packet of a payload of 1 to `PAYLOAD_LIMIT` bytes, sealed, and raises the number of the next
-    /// one (RFC 4253 sections 6 and 6.4). After an error all is as before: `Payload` of another length, `UsedUp`
-    /// where `LINK_LIMIT` packets were sealed, `Memory` where an allocation failed.
+    /// Appends the packet of a payload of 1 to `PAYLOAD_LIMIT` bytes, sealed, raises the number of the next
+    /// one (RFC 4253 sections 6 and 6.4), and makes the keys those of the next one. After an error all is as
+    /// before: `Payload` of another length, `UsedUp` where `LINK_LIMIT` packets were sealed, or some of `LINK_BYTES_LIMIT` bytes or
+    /// more, `Memory` where an allocation failed.
     #[tactic(auto, unfolding(crate::specs::Linked::outgoing_of, crate::specs::Linked::incoming_of))]
     pub fn seal<S: Suite>(
         &mut self,
@@ -87,8 +98,8 @@ impl Link {
         ensures appends { out.new.items ≡ (if is_ok result then out.old.items ++ sealed_by (S.meaning suite.now) (outgoing_of self.old) payload.now else out.old.items) }
         // What is sealed is a packet of the payload with the least padding.
         ensures packet { OnOk result (IsSealed (S.meaning suite.now) (outgoing_of self.old) payload.now) }
-        // The number goes up by one exactly where a packet was sealed, and what is opened stays as it is.
-        ensures raises { outgoing_of self.new ≡ (if is_ok result then raised (outgoing_of self.old) else outgoing_of self.old) }
+        // The number goes up by one, and the keys advance, exactly where a packet was sealed; and what is opened stays as it is.
+        ensures raises { outgoing_of self.new ≡ (if is_ok result then raised (S.meaning suite.now) payload.now (outgoing_of self.old) else outgoing_of self.old) }
         ensures incoming { incoming_of self.new ≡ incoming_of self.old }
         ensures can { OnOk result (CanSeal (outgoing_of self.old) payload.now) }
         ensures refused { IfErr result (λ f. SealRefused (outgoing_of self.old) payload.now f) }
@@ -96,13 +107,14 @@ impl Link {
         if payload.is_empty() || payload.len() > PAYLOAD_LIMIT {
             return Err(LinkFault::Payload);
         }
-        if self.sealed >= LINK_LIMIT {
+        if self.sealed >= LINK_LIMIT || self.sealed_bytes >= LINK_BYTES_LIMIT {
             return Err(LinkFault::UsedUp);
         }
-        write_sealed(
+        let before = out.len();
+        write_next(
             self.alloc,
             suite,
-            &self.keys,
+            &mut self.keys,
             self.number,
             payload,
             &self.seed,
@@ -110,6 +122,7 @@ impl Link {
         )?;
         self.number = self.number.wrapping_add(1);
         self.sealed += 1;
+        self.sealed_bytes += (out.len() - before) as u64;
         Ok(())
     }
 
@@ -159,6 +172,14 @@ impl Link {
         ensures { result ≡ (outgoing_of self.now).sealed }
     {
         self.sealed
+    }
+
+    /// How many bytes the packets had that were sealed. Takes no memory.
+    #[tactic(auto, unfolding(crate::specs::Linked::outgoing_of))]
+    pub fn sealed_bytes(&self) -> u64
+        ensures { result ≡ (outgoing_of self.now).bytes }
+    {
+        self.sealed_bytes
     }
 
     /// How many packets were opened; one that was refused counts too. Takes no memory.

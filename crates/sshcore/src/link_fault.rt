@@ -14,7 +14,8 @@ use std::fmt;
 pub enum LinkFault {
     /// The payload has no byte, or more than `PAYLOAD_LIMIT` (RFC 4253 section 6.1). The next one may do.
     Payload,
-    /// `LINK_LIMIT` packets were sealed, or opened, so no other one is in this direction.
+    /// `LINK_LIMIT` packets were sealed, or opened, or some of `LINK_BYTES_LIMIT` bytes or more were sealed, so no other one is in this
+    /// direction.
     UsedUp,
     /// What came is no packet (RFC 4253 section 6); it is never `PacketFault::Memory`. The link opens nothing
     /// any more.

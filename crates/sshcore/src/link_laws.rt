@@ -3,11 +3,12 @@
 ghost use Rattle.std.specs.Prelude.{◌≡◌, ◌≢◌, ◌⊎◌, ℕ, ◌+◌, ◌<◌, ◌^◌, ◌++◌, Err, List, Ok, Result, length};
 ghost use Rattle.sshwire.specs.Types.{IsBytes};
 ghost use Rattle.sshpacket.specs.Suite.{IsLawful, SuiteData};
+ghost use Rattle.sshpacket.specs.Written.{sealed_size};
 ghost use Rattle.sshpacket.specs.declared.reader.PacketStep.{PacketStep};
 ghost use Rattle.sshcore.specs.declared.link_fault.LinkFault.{LinkFault};
 ghost use Rattle.sshcore.specs.declared.link_fault.LinkFault.TheVariants as fault;
 ghost use Rattle.sshcore.specs.declared.session.Direction.{Direction};
-ghost use Rattle.sshcore.specs.Linked.{AreLinked, BeginsBy, CanSeal, Incoming, LinkLeaves, OnlyOpenAnswer, Opens, Outgoing, raised, raised_times, sealed_by, sent_by};
+ghost use Rattle.sshcore.specs.Linked.{AreLinked, BeginsBy, CanSeal, Incoming, LinkLeaves, OnlyOpenAnswer, Opens, Outgoing, raised, raised_by, sealed_by, sent_by};
 
 /// The law of links: what one link of a session seals, the link of the peer's session opens, and no number
 /// comes again. Takes no memory.
@@ -20,10 +21,13 @@ pub fn link_law()
         → (result : Result PacketStep LinkFault) → OnlyOpenAnswer m i (sealed_by m o payload ++ rest) result
         → Opens payload o.number (length (sealed_by m o payload)) result ⊎ (result ≡ Err fault.Memory) }
     ensures goes_on { (m : SuiteData) (o : Outgoing) (i new : Incoming) → AreLinked o i → (piece : List ℕ) (step : PacketStep) (payload : List ℕ) (seq used : ℕ)
-        → Opens payload seq used (Ok step) → LinkLeaves m i piece (Ok step) new → AreLinked (raised o) new }
+        → Opens payload seq used (Ok step) → used ≡ sealed_size m o.keys payload → LinkLeaves m i piece (Ok step) new → AreLinked (raised m payload o) new }
+    ensures size { (m : SuiteData) → IsLawful m → (o : Outgoing) (payload : List ℕ) → o.number < 2 ^ 32 → IsBytes payload → CanSeal o payload
+        → length (sealed_by m o payload) ≡ sealed_size m o.keys payload }
     // Of 2^32 packets one after another no two have the same number.
-    ensures counts { (o : Outgoing) (n : ℕ) → (raised_times n o).sealed ≡ o.sealed + n }
-    ensures fresh { (o : Outgoing) (a b : ℕ) → o.number < 2 ^ 32 → a < b → b < a + 2 ^ 32 → (raised_times a o).number ≢ (raised_times b o).number }
+    ensures counts { (m : SuiteData) (o : Outgoing) (ps : List (List ℕ)) → (raised_by m ps o).sealed ≡ o.sealed + length ps }
+    ensures fresh { (m : SuiteData) (o : Outgoing) (ps qs : List (List ℕ)) → o.number < 2 ^ 32 → length ps < length qs → length qs < length ps + 2 ^ 32
+        → (raised_by m ps o).number ≢ (raised_by m qs o).number }
 {
     sshpacket::packet_law();
     sshpacket::writing_law();

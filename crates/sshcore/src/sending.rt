@@ -34,7 +34,7 @@ impl State<'_> {
         ensures gives { OnOk result ((kind (written_message (message_data message.entry)) == 21) ≡ false → (strict : Bool) (next : KeysData)
             → Gives (S.meaning suite.now) (config_data config.now).seed strict next (state_data self.old) (state_data self.new) sent.old.items sent.new.items
             (goes (written_message (message_data message.entry) ∷ []))) }
-        ensures counts { OnOk result (state_data self.new ≡ record (state_data self.old) { sending = with_packet (state_data self.old).sending }) }
+        ensures counts { OnOk result (state_data self.new ≡ record (state_data self.old) { sending = with_packet (S.meaning suite.now) (written_message (message_data message.entry)) (state_data self.old).sending }) }
     {
         let payload = payload_from(self.alloc, message)?;
         self.send(config, suite, &payload, sent)

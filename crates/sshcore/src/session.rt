@@ -12,12 +12,14 @@ use sshneg::Side;
 use sshpacket::Keys;
 use std::alloc::Global;
 
-/// The keys of one direction, and the sequence number of its next packet (RFC 4253 section 6.4).
+/// The keys of one direction, and the sequence number of its next packet (RFC 4253 section 6.4): with both the
+/// direction goes on.
 ///
 /// It has no `Debug`: keys are never printed.
 #[derive(Drop)]
 pub struct Direction {
-    /// The keys of the exchange (RFC 4253 section 7.2).
+    /// The keys of the next packet: those of the exchange (RFC 4253 section 7.2), advanced with each packet since
+    /// the key switch.
     pub keys: Keys,
     /// The sequence number of the next packet.
     pub sequence_number: u32,

@@ -22,7 +22,7 @@ use crate::payloads::payload_of;
 use crate::session::UserKey;
 use crate::table::Phase;
 use sshmsg::Message;
-use sshpacket::{Keys, ShareForm, Suite, write_clear, write_sealed};
+use sshpacket::{Keys, ShareForm, Suite, write_clear, write_next};
 use sshwire::Memory;
 use std::alloc::Global;
 
@@ -192,13 +192,13 @@ impl<'a> State<'a> {
         requires short { length payload.now ≤ PAYLOAD_LIMIT }
         ensures spells { OnOk result (sent.new.items ≡ sent.old.items
             ++ spelled_by (S.meaning suite.now) (state_data self.old).sending.keys (config_data config.now).seed (state_data self.old).sending.number payload.now) }
-        ensures counts { OnOk result (state_data self.new ≡ record (state_data self.old) { sending = with_packet (state_data self.old).sending }) }
+        ensures counts { OnOk result (state_data self.new ≡ record (state_data self.old) { sending = with_packet (S.meaning suite.now) payload.now (state_data self.old).sending }) }
     {
         let seed = config.padding_seed();
-        match &self.keys_out {
+        match &mut self.keys_out {
             None => write_clear(self.alloc, suite, self.number_out, payload, seed, sent)?,
             Some(keys) => {
-                write_sealed(
+                write_next(
                     self.alloc,
                     suite,
                     keys,

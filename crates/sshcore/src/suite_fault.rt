@@ -3,7 +3,7 @@
 use std::error::Error;
 use std::fmt;
 
-/// A list of algorithms that a config is judged by over a suite. MACs aren't judged.
+/// A list of algorithms that a config is judged by over a suite.
 #[derive(Clone, Copy, Debug, PartialEq, Eq)]
 pub enum AlgorithmList {
     /// Key exchange methods.
@@ -14,6 +14,10 @@ pub enum AlgorithmList {
     EncryptionClientToServer,
     /// Ciphers from server to client.
     EncryptionServerToClient,
+    /// MACs from client to server.
+    MacClientToServer,
+    /// MACs from server to client.
+    MacServerToClient,
 }
 
 impl AlgorithmList {
@@ -29,6 +33,8 @@ impl AlgorithmList {
             AlgorithmList::HostKey => "server_host_key_algorithms",
             AlgorithmList::EncryptionClientToServer => "encryption_algorithms_client_to_server",
             AlgorithmList::EncryptionServerToClient => "encryption_algorithms_server_to_client",
+            AlgorithmList::MacClientToServer => "mac_algorithms_client_to_server",
+            AlgorithmList::MacServerToClient => "mac_algorithms_server_to_client",
         }
     }
 }

@@ -19,8 +19,8 @@ use crate::suite_fault::{AlgorithmList, SuiteFault};
 use sshpacket::Inventory;
 
 impl ClientConfig {
-    /// Judges this config over a suite: the suite has to have each key exchange method and each cipher that is listed, to sign by
-    /// each host key algorithm, and to hold each private key of the plan. MACs aren't judged. Takes no memory.
+    /// Judges this config over a suite: the suite has to have each key exchange method, cipher and MAC that is listed, to sign by
+    /// each host key algorithm, and to hold each private key of the plan. Takes no memory.
     ///
     /// Answers the first name that the suite doesn't have, list by list in the order of a KEXINIT, else the first private key
     /// that it doesn't hold. Nothing else depends on it: an endpoint of a config that is refused here keeps its promises,
@@ -61,8 +61,8 @@ impl ClientConfig {
 }
 
 impl ServerConfig {
-    /// Judges this config over a suite: the suite has to have each key exchange method and each cipher that is listed, to sign by
-    /// the algorithm of each host key, and to hold each host key's private key. MACs aren't judged. Takes no memory.
+    /// Judges this config over a suite: the suite has to have each key exchange method, cipher and MAC that is listed, to sign by
+    /// the algorithm of each host key, and to hold each host key's private key. Takes no memory.
     ///
     /// Answers the first name that the suite doesn't have, list by list in the order of a KEXINIT, else the first private key
     /// that it doesn't hold. Nothing else depends on it: an endpoint of a config that is refused here keeps its promises,
@@ -107,11 +107,15 @@ fn unknown_algorithm<'a, S: Inventory>(
     requires kex { AreNames (map string_bytes side.now.kex_algorithms.items) }
     requires to_server { AreNames (map string_bytes side.now.encryption_client_to_server.items) }
     requires to_client { AreNames (map string_bytes side.now.encryption_server_to_client.items) }
+    requires mac_to_server { AreNames (map string_bytes side.now.mac_client_to_server.items) }
+    requires mac_to_client { AreNames (map string_bytes side.now.mac_server_to_client.items) }
     ensures { option_map suite_fault_data result
         ≡ option_or (suite_refusal (S.meaning suite.now) (S.inventory suite.now) (named_in algorithms.Kex (map string_bytes side.now.kex_algorithms.items)))
         (option_or (option_map suite_fault_data host_keys.entry)
         (option_or (suite_refusal (S.meaning suite.now) (S.inventory suite.now) (named_in algorithms.EncryptionClientToServer (map string_bytes side.now.encryption_client_to_server.items)))
-        (suite_refusal (S.meaning suite.now) (S.inventory suite.now) (named_in algorithms.EncryptionServerToClient (map string_bytes side.now.encryption_server_to_client.items))))) }
+        (option_or (suite_refusal (S.meaning suite.now) (S.inventory suite.now) (named_in algorithms.EncryptionServerToClient (map string_bytes side.now.encryption_server_to_client.items)))
+        (option_or (suite_refusal (S.meaning suite.now) (S.inventory suite.now) (named_in algorithms.MacClientToServer (map string_bytes side.now.mac_client_to_server.items)))
+        (suite_refusal (S.meaning suite.now) (S.inventory suite.now) (named_in algorithms.MacServerToClient (map string_bytes side.now.mac_server_to_client.items))))))) }
 {
     let kex = unknown_name(suite, AlgorithmList::Kex, &side.kex_algorithms);
     if kex.is_some() {
@@ -120,6 +124,21 @@ fn unknown_algorithm<'a, S: Inventory>(
     if host_keys.is_some() {
         return host_keys;
     }
+    unknown_cipher_or_mac(suite, side)
+}
+
+/// The first name of a side's lists of ciphers and MACs that the suite doesn't have.
+fn unknown_cipher_or_mac<'a, S: Inventory>(suite: &S, side: &'a SideParts) -> Option<SuiteFault<'a>>
+    requires to_server { AreNames (map string_bytes side.now.encryption_client_to_server.items) }
+    requires to_client { AreNames (map string_bytes side.now.encryption_server_to_client.items) }
+    requires mac_to_server { AreNames (map string_bytes side.now.mac_client_to_server.items) }
+    requires mac_to_client { AreNames (map string_bytes side.now.mac_server_to_client.items) }
+    ensures { option_map suite_fault_data result
+        ≡ option_or (suite_refusal (S.meaning suite.now) (S.inventory suite.now) (named_in algorithms.EncryptionClientToServer (map string_bytes side.now.encryption_client_to_server.items)))
+        (option_or (suite_refusal (S.meaning suite.now) (S.inventory suite.now) (named_in algorithms.EncryptionServerToClient (map string_bytes side.now.encryption_server_to_client.items)))
+        (option_or (suite_refusal (S.meaning suite.now) (S.inventory suite.now) (named_in algorithms.MacClientToServer (map string_bytes side.now.mac_client_to_server.items)))
+        (suite_refusal (S.meaning suite.now) (S.inventory suite.now) (named_in algorithms.MacServerToClient (map string_bytes side.now.mac_server_to_client.items))))) }
+{
     let to_server = unknown_name(
         suite,
         AlgorithmList::EncryptionClientToServer,
@@ -128,10 +147,26 @@ fn unknown_algorithm<'a, S: Inventory>(
     if to_server.is_some() {
         return to_server;
     }
-    unknown_name(
+    let to_client = unknown_name(
         suite,
         AlgorithmList::EncryptionServerToClient,
         &side.encryption_server_to_client,
+    );
+    if to_client.is_some() {
+        return to_client;
+    }
+    let mac_to_server = unknown_name(
+        suite,
+        AlgorithmList::MacClientToServer,
+        &side.mac_client_to_server,
+    );
+    if mac_to_server.is_some() {
+        return mac_to_server;
+    }
+    unknown_name(
+        suite,
+        AlgorithmList::MacServerToClient,
+        &side.mac_server_to_client,
     )
 }
 
@@ -178,6 +213,8 @@ fn has_algorithm<S: Inventory>(suite: &S, list: AlgorithmList, name: &str) -> bo
         AlgorithmList::HostKey => suite.can(name).signature,
         AlgorithmList::EncryptionClientToServer => suite.has_cipher(name),
         AlgorithmList::EncryptionServerToClient => suite.has_cipher(name),
+        AlgorithmList::MacClientToServer => suite.has_mac(name),
+        AlgorithmList::MacServerToClient => suite.has_mac(name),
     }
 }
 

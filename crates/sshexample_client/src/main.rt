@@ -65,8 +65,12 @@ impl Decisions for HostKeys {
     }
 }
 
-/// Ciphers, of which the second works only where both sides are strict.
-const CIPHERS: &str = "chacha20-poly1305@openssh.com,aes256-gcm@openssh.com";
+/// Ciphers, of which the last two use a MAC.
+const CIPHERS: &str =
+    "chacha20-poly1305@openssh.com,aes256-gcm@openssh.com,aes128-gcm@openssh.com,aes256-ctr,aes128-ctr";
+
+/// Their MACs: those that cover what is sealed come first.
+const MACS: &str = "hmac-sha2-256-etm@openssh.com,hmac-sha2-256";
 
 fn main(rt: HostRuntime) -> anyhow::Result<()> {
     let keys = HostKeys {
@@ -121,8 +125,8 @@ fn parts_of(rt: &HostRuntime, user: &str, password: &str) -> anyhow::Result<Clie
             kex_algorithms: list(alloc, "mlkem768x25519-sha256,curve25519-sha256")?,
             encryption_client_to_server: list(alloc, CIPHERS)?,
             encryption_server_to_client: list(alloc, CIPHERS)?,
-            mac_client_to_server: list(alloc, "hmac-sha2-256")?,
-            mac_server_to_client: list(alloc, "hmac-sha2-256")?,
+            mac_client_to_server: list(alloc, MACS)?,
+            mac_server_to_client: list(alloc, MACS)?,
             strict: true,
             cookie: random(rt, 16)?,
             exchange_random: random(rt, 32)?,

@@ -11,7 +11,7 @@ use Rattle.sshpacket.specs.declared.room.TheConstants.{ROOM_KEPT}
 use Rattle.sshpacket.specs.Parse.{Parse, OfPacket, refused, unfinished, whole}
 use Rattle.sshpacket.specs.declared.reader.PacketReader.{PacketReader}
 use Rattle.sshpacket.specs.PacketReaderData.{HoldsNothingAfter, IsPayload, IsStep, KeepsLittle, ReaderLeaves, ReaderWaits, Uses, last_used, spare_room, packet_reader_data, OnlyPacketAnswer, ParseAnswer, PacketAnswer, PacketReaderData, ahead, protection_at}
-use Rattle.sshpacket.specs.Suite.{SuiteData}
+use Rattle.sshpacket.specs.Suite.{SuiteData, next_keys}
 use Rattle.sshpacket.specs.ProtectedPacket.{IsProtectedPacket, PacketMeans}
 
 is_memory : (f : PacketFault) → (f ≡ Memory) ⊎ (f ≢ Memory)
@@ -103,10 +103,14 @@ module _ (m : SuiteData) (s : PacketReaderData) (piece : List ℕ) where
     step_answer (Payload lent seq taken) is low e =
         (omega (arith, is.2, low), e ∙ (ap (λ (xs : List ℕ). whole xs (length s.held + used)) (sym is.0) ∙ ap (λ (n : ℕ). whole lent.now (length s.held + n)) (sym is.2)), is.1)
 
-    pub step_leaves : (step : PacketStep) (new : PacketReader) → IsStep payload s.seq used step → packet_reader_data new ≡ record s { held = []; seq = (s.seq + 1) % 2 ^ 32 }
+    pub step_leaves : (step : PacketStep) (new : PacketReader) → IsStep payload s.seq used step → packet_reader_data new ≡ record s { keys = next_keys m s.keys (length s.held + used); held = []; seq = (s.seq + 1) % 2 ^ 32 }
         → last_used new ≡ used → ReaderWaits m new → ReaderLeaves m s piece (Ok step) new
     step_leaves More new is same taken waits = absurd is
-    step_leaves (Payload lent seq number) new is same taken waits = (same, taken ∙ sym is.2, waits)
+    step_leaves (Payload lent seq number) new is same taken waits = (
+      same ∙ ap (λ (n : ℕ). record s { keys = next_keys m s.keys (length s.held + n); held = []; seq = (s.seq + 1) % 2 ^ 32 }) (sym is.2),
+      taken ∙ sym is.2,
+      waits,
+    )
 
     pub step_uses : (step : PacketStep) → IsStep payload s.seq used step → 0 < used → used ≤ length piece → Uses (length piece) step
     step_uses More is some low = tt

@@ -1,6 +1,6 @@
 -- In clear the answers of a packet reader are the same whatever the suite.
 
-use Rattle.std.proofs.Common.{◌≡◌, ℕ, ◌+◌, List, [], ◌++◌, length, take, refl, sym, ap, ◌∙◌, subst, Option, None, Some, IfErr, Result, Ok, Err}
+use Rattle.std.proofs.Common.{◌≡◌, ℕ, ◌+◌, ◌%◌, ◌^◌, List, [], ◌++◌, length, take, refl, sym, ap, ◌∙◌, subst, Option, None, Some, IfErr, Result, Ok, Err}
 use Rattle.sshpacket.specs.ClearReaderData.{ClearWaits, packets_of}
 use Rattle.sshpacket.specs.declared.clear_reader.ClearReader.{ClearReader}
 use Rattle.sshpacket.specs.declared.fault.PacketFault.{PacketFault}
@@ -12,7 +12,7 @@ use Rattle.sshpacket.specs.PacketReaderData.{OnlyPacketAnswer, PacketAnswer, Pac
 use Rattle.sshpacket.specs.Parse.{ProtectionData, parse_packet, protection, unfinished}
 use Rattle.sshpacket.specs.ProtectedPacket.{IsProtectedPacket, PacketMeans, Refuses}
 use Rattle.sshpacket.specs.ReaderSteps.{needed}
-use Rattle.sshpacket.specs.Suite.{SuiteData}
+use Rattle.sshpacket.specs.Suite.{SuiteData, next_keys}
 
 same_by : (m n : SuiteData) (keys : Option KeysData) (seq : ℕ) → keys ≡ None → protection m keys seq ≡ protection n keys seq
 same_by m n None seq e = refl
@@ -61,14 +61,16 @@ pub stays_clear : (m : SuiteData) (s : PacketReaderData) → s.keys ≡ None →
     → ReaderLeaves m s piece result new → (packet_reader_data new).keys ≡ None
 stays_clear m s clear piece (Err f) new a = ap (λ (t : PacketReaderData). t.keys) a.0 ∙ clear
 stays_clear m s clear piece (Ok More) new a = ap (λ (t : PacketReaderData). t.keys) a.0 ∙ clear
-stays_clear m s clear piece (Ok (Payload payload seq used)) new a = ap (λ (t : PacketReaderData). t.keys) a.0 ∙ clear
+stays_clear m s clear piece (Ok (Payload payload seq used)) new a = ap (λ (t : PacketReaderData). t.keys) a.0 ∙ ap (λ (k : Option KeysData). next_keys m k (length s.held + used)) clear
 
 pub leaves_any : (m n : SuiteData) (s : PacketReaderData) → s.keys ≡ None → (piece : List ℕ) (result : Result PacketStep PacketFault) (new : PacketReader)
     → ReaderLeaves m s piece result new → ReaderLeaves n s piece result new
 leaves_any m n s clear piece (Err f) new a = (a.0, a.1, λ other. same_ahead m n s clear piece ∙ a.2 other)
 leaves_any m n s clear piece (Ok More) new a = (a.0, a.1, waits_any m n new (stays_clear m s clear piece (Ok More) new a) a.2)
 leaves_any m n s clear piece (Ok (Payload payload seq used)) new a =
-    (a.0, a.1, waits_any m n new (stays_clear m s clear piece (Ok (Payload payload seq used)) new a) a.2)
+    let none : next_keys m s.keys (length s.held + used) ≡ next_keys n s.keys (length s.held + used)
+    = ap (λ (k : Option KeysData). next_keys m k (length s.held + used)) clear ∙ ap (λ (k : Option KeysData). next_keys n k (length s.held + used)) (sym clear) in
+    (a.0 ∙ ap (λ (k : Option KeysData). record s { keys = k; held = []; seq = (s.seq + 1) % 2 ^ 32 }) none, a.1, waits_any m n new (stays_clear m s clear piece (Ok (Payload payload seq used)) new a) a.2)
 
 waits_left : (m : SuiteData) (s : PacketReaderData) (piece : List ℕ) (step : PacketStep) (new : PacketReader)
     → ReaderLeaves m s piece (Ok step) new → ReaderWaits m new

@@ -68,7 +68,9 @@ module _ (m : SuiteData) (r : PacketReader) (piece : List ℕ) (waits : ReaderWa
 pub none_held : (held : List ℕ) → held ≡ [] → length held < 4
 none_held held none = let zero : length held ≡ 0 = ap (λ (xs : List ℕ). length xs) none in omega arith
 
--- a finished packet leaves nothing held
-pub finished : (keys : Option KeysData) (seq : ℕ) (fault : Option PacketFault) (held : List ℕ) → held ≡ []
-    → ◌≡◌ {A = PacketReaderData} (record { keys = keys; seq = seq; held = held; fault = fault }) (record { keys = keys; seq = seq; held = []; fault = fault })
-finished keys seq fault held none = ap (λ (xs : List ℕ). let s : PacketReaderData = record { keys = keys; seq = seq; held = xs; fault = fault } in s) none
+-- a finished packet leaves nothing held, and the keys of the next one
+pub finished : (keys next : Option KeysData) (seq : ℕ) (fault : Option PacketFault) (held : List ℕ) → held ≡ [] → keys ≡ next
+    → ◌≡◌ {A = PacketReaderData} (record { keys = keys; seq = seq; held = held; fault = fault }) (record { keys = next; seq = seq; held = []; fault = fault })
+finished keys next seq fault held none same =
+    ap (λ (xs : List ℕ). let s : PacketReaderData = record { keys = keys; seq = seq; held = xs; fault = fault } in s) none
+    ∙ ap (λ (k : Option KeysData). let s : PacketReaderData = record { keys = k; seq = seq; held = []; fault = fault } in s) same

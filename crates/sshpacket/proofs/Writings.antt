@@ -1,6 +1,6 @@
 -- What is written is a packet, and is read again.
 
-use Rattle.std.proofs.Common.{◌≡◌, ℕ, ◌+◌, ◌-◌, ◌%◌, ◌<◌, ◌≤◌, ◌^◌, Bool, true, false, List, ◌∷◌, ◌++◌, length, take, None, Some, refl, ap, ◌∙◌, arith, cond, ltb}
+use Rattle.std.proofs.Common.{◌≡◌, ℕ, ◌+◌, ◌-◌, ◌%◌, ◌<◌, ◌≤◌, ◌^◌, Bool, true, false, List, [], ◌∷◌, ◌++◌, length, take, None, Some, refl, ap, ◌∙◌, arith, cond, ltb}
 use Rattle.std.proofs.Math.Nat.{le-max_left}
 use Rattle.std.proofs.lemmas.List.{length-append, take-append-le, take_at}
 use Rattle.std.proofs.lemmas.Nat.{mod_below}
@@ -9,8 +9,8 @@ use Rattle.sshwire.specs.Types.{IsBytes, Uint32Text, uint32}
 use Rattle.sshpacket.specs.Parse.{parse_packet, protection, whole}
 use Rattle.sshpacket.specs.KeysData.{KeysData}
 use Rattle.sshpacket.specs.Packet.{IsLeastPadding, IsLength, IsPacket, IsPadding, counted, least_padding, length_field, number, packet, to_multiple, alignment, with_four}
-use Rattle.sshpacket.specs.Suite.{IsLawful, SuiteData}
-use Rattle.sshpacket.specs.Written.{IsWritten, written}
+use Rattle.sshpacket.specs.Suite.{IsLawful, SuiteData, advanced, all_advanced}
+use Rattle.sshpacket.specs.Written.{IsWritten, after_all, sealed_size, written, written_sealed}
 use Rattle.sshpacket.proofs.LeastPadding.{least_is}
 use Rattle.sshpacket.proofs.Opening.{packet_length_is, packet_number, number_first}
 use Rattle.sshpacket.proofs.ProtectedLaws.{parse_unit}
@@ -129,6 +129,21 @@ sealed_again r m law keys seq payload clear rest low each k =
     ∙ law.unseal_of_seal keys seq payload clear low (each, k))
     k (omega arith) (omega arith)
 
+-- how many bytes are sealed
+pub size_is : IsBytesLaw → (m : SuiteData) → IsLawful m → (keys : KeysData) (seed : List ℕ) (seq : ℕ) (payload : List ℕ) → seq < 2 ^ 32 → IsBytes payload
+    → IsPacket (m.counts_length keys.cipher keys.mac) (m.block keys.cipher) (m.tag_len keys.cipher keys.mac) payload (written m (m.counts_length keys.cipher keys.mac) (m.block keys.cipher) seed seq payload)
+    → length (written_sealed m keys seed seq payload) ≡ sealed_size m keys payload
+unfolding sealed_size written
+size_is bytes m law keys seed seq payload low each k =
+    let counts : Bool = m.counts_length keys.cipher keys.mac in
+    let block : ℕ = m.block keys.cipher in
+    let padding : List ℕ = m.padding seed seq (least_padding counts block (length payload)) in
+    let sealed : length (m.seal keys seq (packet payload padding)) ≡ length (packet payload padding) + m.tag_len keys.cipher keys.mac
+    = law.seal_length keys seq payload (packet payload padding) low (written_bytes bytes m law counts block seed seq payload (law.block_high keys.cipher) each, k) in
+    let parts : length (packet payload padding) ≡ 5 + length payload + length padding = packet_length_is payload padding in
+    let padded : length padding ≡ least_padding counts block (length payload) = law.padding_length seed seq (least_padding counts block (length payload)) in
+    omega arith
+
 -- a payload and padding that is allowed
 pub padded_is : (payload padding : List ℕ) → 0 < length payload → length payload ≤ PAYLOAD_LIMIT → IsPadding true 8 (length payload) (length padding) → length padding < 256
     → IsPacket true 8 0 payload (packet payload padding)
@@ -140,3 +155,18 @@ padded_is payload padding some low allowed short = record {
   padding_high = short;
   not_empty = some;
 }
+
+-- the keys of a suite that leaves the iv as it is
+module _ (m : SuiteData) (still : (keys : KeysData) (len : ℕ) → m.next_iv keys len ≡ keys.iv) where
+  same_keys : (keys : KeysData) (len : ℕ) → advanced m keys len ≡ keys
+  same_keys keys len = ap (λ (iv : List ℕ). let k : KeysData = record keys { iv = iv } in k) (still keys len)
+
+  pub stays_opened : (keys : KeysData) (sizes : List ℕ) → all_advanced m keys sizes ≡ keys
+  unfolding all_advanced
+  stays_opened keys [] = refl
+  stays_opened keys (n ∷ ns) = ap (λ (k : KeysData). all_advanced m k ns) (same_keys keys n) ∙ stays_opened keys ns
+
+  pub stays_sealed : (keys : KeysData) (payloads : List (List ℕ)) → after_all m keys payloads ≡ keys
+  unfolding after_all
+  stays_sealed keys [] = refl
+  stays_sealed keys (p ∷ ps) = ap (λ (k : KeysData). after_all m k ps) (same_keys keys (sealed_size m keys p)) ∙ stays_sealed keys ps

@@ -22,6 +22,7 @@ no_suite = record {
   seal = λ keys seq clear. clear;
   head = λ keys seq first. number first;
   unseal = λ keys seq sealed. Some sealed;
+  next_iv = λ keys len. keys.iv;
   padding = λ seed seq len. zeros len;
   share_form = λ kex. OctetString;
   share = λ kex random. [];

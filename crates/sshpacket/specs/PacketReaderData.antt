@@ -11,7 +11,7 @@ use Rattle.sshpacket.specs.declared.room.TheConstants.{ROOM_KEPT}
 use Rattle.sshpacket.specs.Parse.{Parse, OfPacket, ProtectionData, parse_packet, refused, unfinished, protection, whole}
 use Rattle.sshpacket.specs.KeysData.{KeysData}
 use Rattle.sshpacket.specs.ReaderSteps.{needed}
-use Rattle.sshpacket.specs.Suite.{SuiteData}
+use Rattle.sshpacket.specs.Suite.{SuiteData, next_keys}
 use Rattle.sshpacket.specs.ProtectedPacket.{IsProtectedPacket, PacketMeans, Refuses}
 
 -- its keys, the next packet's number, the bytes of the unfinished packet, and the fault that it found
@@ -90,14 +90,14 @@ ParseAnswer m s piece (Ok More) = ahead m s piece ≡ unfinished
 ParseAnswer m s piece (Ok (Payload payload seq used)) =
     (used ≤ length piece) × (ahead m s piece ≡ whole payload.now (length s.held + used)) × (seq ≡ s.seq)
 
--- and how the reader is left: with all unfinished bytes, with none after a packet, with none and the fault
+-- and how the reader is left: with all unfinished bytes; after a packet with none, and the keys of the next one; with none and the fault
 abbrev pub ReaderLeaves : SuiteData → PacketReaderData → List ℕ → Result PacketStep PacketFault → PacketReader → Type 0
 ReaderLeaves m old piece (Err f) new =
     (packet_reader_data new ≡ record old { held = []; fault = Some f }) × (last_used new ≤ length piece)
     × (f ≢ Memory → ahead m old piece ≡ refused (OfPacket f) (length old.held + last_used new))
 ReaderLeaves m old piece (Ok More) new = (packet_reader_data new ≡ record old { held = old.held ++ piece }) × (last_used new ≡ length piece) × ReaderWaits m new
 ReaderLeaves m old piece (Ok (Payload payload seq used)) new =
-    (packet_reader_data new ≡ record old { held = []; seq = (old.seq + 1) % 2 ^ 32 }) × (last_used new ≡ used) × ReaderWaits m new
+    (packet_reader_data new ≡ record old { keys = next_keys m old.keys (length old.held + used); held = []; seq = (old.seq + 1) % 2 ^ 32 }) × (last_used new ≡ used) × ReaderWaits m new
 
 -- a packet uses some bytes of a piece of this length, and no more than it has
 abbrev pub Uses : ℕ → PacketStep → Type 0
@@ -123,5 +123,5 @@ Advances m old piece (Err f) new =
 Advances m old piece (Ok None) new =
     (packet_reader_data new ≡ record old { held = old.held ++ piece }) × (last_used new ≡ length piece) × (ahead m old piece ≡ unfinished) × ReaderWaits m new
 Advances m old piece (Ok (Some payload_len)) new =
-    (packet_reader_data new ≡ record old { held = []; seq = (old.seq + 1) % 2 ^ 32 })
+    (packet_reader_data new ≡ record old { keys = next_keys m old.keys (length old.held + last_used new); held = []; seq = (old.seq + 1) % 2 ^ 32 })
     × (ahead m old piece ≡ whole (take payload_len (drop 5 new.packet.items)) (length old.held + last_used new)) × ReaderWaits m new

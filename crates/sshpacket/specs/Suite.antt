@@ -1,6 +1,6 @@
 -- What a suite of algorithms answers, as functions on byte lists, and the laws that hold of them.
 
-use Rattle.std.specs.Prelude.{◌≡◌, ℕ, ◌+◌, ◌^◌, ◌<◌, ◌≤◌, ◌⊎◌, Bool, true, false, List, [], length, take, slice_index, Option, Some, option_map}
+use Rattle.std.specs.Prelude.{◌≡◌, ℕ, ◌+◌, ◌^◌, ◌<◌, ◌≤◌, ◌⊎◌, Bool, true, false, List, [], ◌∷◌, length, take, slice_index, Option, None, Some, option_map}
 use Rattle.sshwire.specs.Types.{IsBytes, IsName}
 use Rattle.sshpacket.specs.declared.suite.Capability.{Capability}
 use Rattle.sshpacket.specs.declared.suite.KeyLens.{KeyLens}
@@ -20,7 +20,8 @@ pub record ResponseData : Type 0 where
 abbrev pub response_data : Response → ResponseData
 response_data r = record { share = r.share.items; shared = r.shared.items }
 
--- the answers of a suite, one function for each call; `share` is that of the call `public`
+-- the answers of a suite, one function for each call; `share` is that of the call `public`, and `next_iv` the initialisation vector
+-- of the call `advance`
 pub record SuiteData : Type 0 where
   pub need : List ℕ → Need
   pub can : List ℕ → Capability
@@ -31,6 +32,7 @@ pub record SuiteData : Type 0 where
   pub seal : KeysData → ℕ → List ℕ → List ℕ
   pub head : KeysData → ℕ → List ℕ → ℕ
   pub unseal : KeysData → ℕ → List ℕ → Option (List ℕ)
+  pub next_iv : KeysData → ℕ → List ℕ
   pub padding : List ℕ → ℕ → ℕ → List ℕ
   pub share_form : List ℕ → ShareForm
   pub share : List ℕ → List ℕ → List ℕ
@@ -41,6 +43,20 @@ pub record SuiteData : Type 0 where
   pub holds : List ℕ → List ℕ → Bool
   pub sign : List ℕ → List ℕ → List ℕ → List ℕ
   pub verify : List ℕ → List ℕ → List ℕ → List ℕ → Bool
+
+-- the keys of the next packet, after one of so many bytes with its tag
+abbrev pub advanced : SuiteData → KeysData → ℕ → KeysData
+advanced m keys len = record keys { iv = m.next_iv keys len }
+
+-- the same where packets may be in clear, which go by no keys
+abbrev pub next_keys : SuiteData → Option KeysData → ℕ → Option KeysData
+next_keys m None len = None
+next_keys m (Some keys) len = Some (advanced m keys len)
+
+-- the keys after packets of these sizes
+unfoldable pub all_advanced : SuiteData → KeysData → List ℕ → KeysData
+all_advanced m keys [] = keys
+all_advanced m keys (n ∷ ns) = all_advanced m (advanced m keys n) ns
 
 -- the body of an mpint of a positive number
 pub record IsPositiveBody (body : List ℕ) : Type 0 where

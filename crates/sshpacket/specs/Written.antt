@@ -1,9 +1,9 @@
 -- The packet that is written for a payload: with the least padding, whose bytes the suite draws from a seed and the packet's own number.
 
-use Rattle.std.specs.Prelude.{Bool, true, ℕ, List, length}
+use Rattle.std.specs.Prelude.{Bool, true, ℕ, ◌+◌, List, [], ◌∷◌, length}
 use Rattle.sshpacket.specs.KeysData.{KeysData}
 use Rattle.sshpacket.specs.Packet.{IsLeastPadding, IsPacket, least_padding, packet}
-use Rattle.sshpacket.specs.Suite.{SuiteData}
+use Rattle.sshpacket.specs.Suite.{SuiteData, advanced}
 
 unfoldable pub written : SuiteData → Bool → ℕ → List ℕ → ℕ → List ℕ → List ℕ
 written m counts block seed seq payload = packet payload (m.padding seed seq (least_padding counts block (length payload)))
@@ -13,6 +13,19 @@ written_clear m seed seq payload = written m true 8 seed seq payload
 
 abbrev pub written_sealed : SuiteData → KeysData → List ℕ → ℕ → List ℕ → List ℕ
 written_sealed m keys seed seq payload = m.seal keys seq (written m (m.counts_length keys.cipher keys.mac) (m.block keys.cipher) seed seq payload)
+
+-- how many bytes it has with its tag
+unfoldable pub sealed_size : SuiteData → KeysData → List ℕ → ℕ
+sealed_size m keys payload = 5 + length payload + least_padding (m.counts_length keys.cipher keys.mac) (m.block keys.cipher) (length payload) + m.tag_len keys.cipher keys.mac
+
+-- the keys of the next packet, after that of this payload
+abbrev pub after_sealed : SuiteData → KeysData → List ℕ → KeysData
+after_sealed m keys payload = advanced m keys (sealed_size m keys payload)
+
+-- and after those of these payloads
+unfoldable pub after_all : SuiteData → KeysData → List (List ℕ) → KeysData
+after_all m keys [] = keys
+after_all m keys (p ∷ ps) = after_all m (after_sealed m keys p) ps
 
 -- a packet of the payload with the least padding
 pub record IsWritten (counts : Bool) (block tag : ℕ) (payload bytes : List ℕ) : Type 0 where

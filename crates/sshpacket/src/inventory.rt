@@ -20,6 +20,11 @@ pub trait Inventory: Suite {
         requires { IsName cipher.now }
         ensures { result ≡ (inventory self.now).has_cipher cipher.now };
 
+    /// Whether the suite has this MAC. A suite whose ciphers all have a tag of their own uses none, and may say yes to every name.
+    fn has_mac(&self, mac: &str) -> bool
+        requires { IsName mac.now }
+        ensures { result ≡ (inventory self.now).has_mac mac.now };
+
     /// Whether the suite has this key exchange method.
     fn has_kex(&self, kex: &str) -> bool
         requires { IsName kex.now }

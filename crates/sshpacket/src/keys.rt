@@ -88,6 +88,14 @@ impl Keys {
         &self.iv
     }
 
+    /// Puts another initialisation vector of the same length in its place. It takes no memory.
+    pub fn set_iv(&mut self, iv: &[u8])
+        requires { length iv.now ≡ length self.old.iv }
+        ensures { self.new ≡ record self.old { iv = iv.now } }
+    {
+        self.iv.as_mut_slice().copy_from_slice(iv);
+    }
+
     /// The encryption key.
     pub fn enc(&self) -> &[u8]
         ensures { result.now ≡ self.now.enc }

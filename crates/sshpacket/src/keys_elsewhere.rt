@@ -64,6 +64,10 @@ impl<S: Suite> Suite for KeysElsewhere<S> {
         self.suite.unseal(alloc, keys, seq, sealed)
     }
 
+    fn advance(&self, keys: &mut Keys, len: usize) {
+        self.suite.advance(keys, len)
+    }
+
     fn padding(&self, alloc: Global, seed: &[u8], seq: u32, len: u8) -> Result<Vec<u8>, Memory> {
         self.suite.padding(alloc, seed, seq, len)
     }
@@ -138,6 +142,10 @@ impl<S: Inventory> Inventory for KeysElsewhere<S> {
 
     fn has_cipher(&self, cipher: &str) -> bool {
         self.suite.has_cipher(cipher)
+    }
+
+    fn has_mac(&self, mac: &str) -> bool {
+        self.suite.has_mac(mac)
     }
 
     fn has_kex(&self, kex: &str) -> bool {

@@ -4,7 +4,7 @@
 //! packets ([`write_with_padding`], [`padding_len`]): for sniffers and for makers of test vectors. With a [`Suite`] it
 //! does so of sealed packets, whose keys are [`Keys`].
 //!
-//! [`write_clear`] and [`write_sealed`] write a payload as a packet; [`PacketReader`] reads packets
+//! [`write_clear`], [`write_sealed`] and [`write_next`] write a payload as a packet; [`PacketReader`] reads packets
 //! off a stream, however it is cut. The law functions are for the layers above.
 #![tactic(auto)]
 
@@ -35,7 +35,7 @@ pub use limits::{
     TAG_LIMIT,
 };
 pub use limits_laws::limits_law;
-pub use packet_laws::{packet_law, shares_law, writing_law};
+pub use packet_laws::{advancing_law, packet_law, shares_law, writing_law};
 pub use padding::{padding_len, padding_len_uncounted};
 pub use protection::leading_uint32;
 pub use reader::{PacketReader, PacketStep};
@@ -45,4 +45,4 @@ pub use stream_laws::{
     joined_law, parser_by_law, parser_law, places_law, receiving_by_law, receiving_law, stream_law,
 };
 pub use suite::{AgreeingSuite, Capability, KeyLens, Need, Response, Suite};
-pub use write::{write_clear, write_sealed, write_with_padding};
+pub use write::{write_clear, write_next, write_sealed, write_with_padding};

@@ -71,6 +71,8 @@ impl Suite for NoSuite {
         Err(Memory)
     }
 
+    fn advance(&self, _keys: &mut Keys, _len: usize) {}
+
     fn padding(
         &self,
         _alloc: Global,

@@ -8,10 +8,10 @@ ghost use Rattle.sshwire.specs.Types.{IsBytes};
 ghost use Rattle.sshpacket.specs.Parse.{Parse, ProtectionData, parse_packet, protection, whole};
 ghost use Rattle.sshpacket.specs.KeysData.{KeysData};
 ghost use Rattle.sshpacket.specs.Packet.{IsPacket};
-ghost use Rattle.sshpacket.specs.Suite.{IsLawful, ResponseData, SuiteData, has_number_shares, shares_number};
+ghost use Rattle.sshpacket.specs.Suite.{IsLawful, ResponseData, SuiteData, all_advanced, has_number_shares, shares_number};
 ghost use Rattle.sshpacket.specs.Shares.{IsShare};
 ghost use Rattle.sshpacket.specs.ProtectedPacket.{IsFaithful, IsProtectedPacket, PacketMeans};
-ghost use Rattle.sshpacket.specs.Written.{IsWritten, written, written_clear, written_sealed};
+ghost use Rattle.sshpacket.specs.Written.{IsWritten, after_all, sealed_size, written, written_clear, written_sealed};
 
 /// The law of packets (RFC 4253 section 6): what is read at the front of bytes is what stands there,
 /// and nothing else.
@@ -40,10 +40,19 @@ pub fn writing_law()
     ensures sealed { (m : SuiteData) → IsLawful m → (keys : KeysData) (seed : List ℕ) (seq : ℕ) (payload rest : List ℕ) → seq < 2 ^ 32 → IsBytes payload
         → 0 < length payload → length payload ≤ PAYLOAD_LIMIT
         → parse_packet (protection m (Some keys) seq) (written_sealed m keys seed seq payload ++ rest) ≡ whole payload (length (written_sealed m keys seed seq payload)) }
+    ensures size { (m : SuiteData) → IsLawful m → (keys : KeysData) (seed : List ℕ) (seq : ℕ) (payload : List ℕ) → seq < 2 ^ 32 → IsBytes payload
+        → 0 < length payload → length payload ≤ PAYLOAD_LIMIT → length (written_sealed m keys seed seq payload) ≡ sealed_size m keys payload }
 {
     sshwire::types_law();
     sshwire::bytes_law();
 }
+
+/// The law of keys that advance: those of a suite that leaves the initialisation vector as it is stay the same, whatever
+/// was received and sent with them.
+pub fn advancing_law()
+    ensures opened { (m : SuiteData) → ((keys : KeysData) (len : ℕ) → m.next_iv keys len ≡ keys.iv) → (keys : KeysData) (sizes : List ℕ) → all_advanced m keys sizes ≡ keys }
+    ensures sealed { (m : SuiteData) → ((keys : KeysData) (len : ℕ) → m.next_iv keys len ≡ keys.iv) → (keys : KeysData) (payloads : List (List ℕ)) → after_all m keys payloads ≡ keys }
+{}
 
 /// The law of shares: what a suite makes of random bytes and of a peer's share are bytes, at most
 /// `SHARE_LIMIT` of them, and the shortest body of an mpint where the method's form asks for one.

@@ -7,6 +7,7 @@ ghost use Rattle.std.specs.Option.{ForSome};
 ghost use Rattle.sshwire.specs.Types.{IsBytes};
 ghost use Rattle.sshpacket.specs.Parse.{Parse, parse_packet, unfinished, protection};
 ghost use Rattle.sshpacket.specs.ProtectedPacket.{IsFaithful, PacketMeans};
+ghost use Rattle.sshpacket.specs.Suite.{next_keys};
 ghost use Rattle.sshpacket.specs.ReaderSteps.{FillsBody, FillsPacket, Fills, FilledSome, HasRoom, KeepsRoom, OpensFilled, GatheredRoom, ReadsOn, needed};
 
 use crate::fault::PacketFault;
@@ -169,6 +170,7 @@ impl PacketReader {
         if let Some(fault) = self.fault {
             return Err(fault);
         }
+        let before = self.unfinished.len();
         let guard = Protection {
             suite,
             keys: &self.keys,
@@ -185,6 +187,7 @@ impl PacketReader {
                 self.packet = opened.packet;
                 self.target = 4;
                 self.seq = self.seq.wrapping_add(1);
+                go_on(suite, &mut self.keys, before + taken);
                 Ok(Some(opened.payload_len))
             }
             Err(fault) => {
@@ -290,7 +293,7 @@ impl PacketReader {
         self.unfinished.as_slice().is_empty()
     }
 
-    /// Sets the keys of all that follows. `reset` says whether the next packet has number 0, as
+    /// Sets the keys with which the next packet is opened. `reset` says whether it has number 0, as
     /// under strict key exchange; else numbers go on. It takes no memory.
     ///
     /// The caller's condition is that no byte of an unfinished packet is held, as after each payload.
@@ -306,6 +309,15 @@ impl PacketReader {
         if reset {
             self.seq = 0;
         }
+    }
+}
+
+/// The keys of the next packet, after one of so many bytes.
+fn go_on<S: Suite>(suite: &S, keys: &mut Option<Keys>, len: usize)
+    ensures { keys.new ≡ next_keys (S.meaning suite.now) keys.old len }
+{
+    if let Some(keys) = keys {
+        suite.advance(keys, len);
     }
 }
 

@@ -17,7 +17,7 @@ ghost use Rattle.sshpacket.specs.Joined.{Joined};
 ghost use Rattle.sshpacket.specs.PreambleParser.{PreambleMeans, PreambleMeansBy, preamble_parser, preamble_parser_by};
 ghost use Rattle.sshpacket.specs.Places.{EachPlace, IsPrefix, after_first, count_places, first_where, flat_places, stands};
 ghost use Rattle.sshpacket.specs.PacketReaderData.{PacketReaderData, ParseAnswer, ReaderLeaves, protection_at};
-ghost use Rattle.sshpacket.specs.Stream.{IsIncremental, IsRest, Linked, Parser, Read, Received, ReceivedAll, Same, Sent, Spelled, Units};
+ghost use Rattle.sshpacket.specs.Stream.{IsIncremental, IsRest, Linked, Parsers, Read, Received, ReceivedAll, Same, Sent, Spelled, Units, sizes_of};
 ghost use Rattle.sshpacket.specs.Suite.{SuiteData};
 ghost use Rattle.sshpacket.specs.ProtectedPacket.{IsFaithful};
 
@@ -96,44 +96,50 @@ pub fn parser_by_law()
 /// The law of streams: a stream has one reading, which grows with the stream, and what is received of
 /// a prefix of what was sent is a prefix of the units sent.
 pub fn stream_law()
-    ensures one { (parsers : Units → Parser) (stream : List ℕ) (us vs : Units) (x y : List ℕ) (r q : Option Refusal)
-        → Received parsers stream us x r → Received parsers stream vs y q → Same us vs x y r q }
+    ensures one { (parsers : Parsers) (stream : List ℕ) (us vs : Units) (ns ms x y : List ℕ) (r q : Option Refusal)
+        → Received parsers stream us ns x r → Received parsers stream vs ms y q → Same us vs x y r q }
 
     // More bytes after them, and one unit more.
-    ensures nothing { (parsers : Units → Parser) → ((us : Units) → IsIncremental (parsers us)) → Received parsers [] [] [] None }
-    ensures read_more { (parsers : Units → Parser) → ((us : Units) → IsIncremental (parsers us)) → (before : Units) (bytes more : List ℕ) (us : Units) (rest : List ℕ)
-        → Read parsers before bytes us rest → Read parsers before (bytes ++ more) us (rest ++ more) }
-    ensures read_push { (parsers : Units → Parser) (before : Units) (bytes : List ℕ) (us : Units) (rest u : List ℕ) (len : ℕ)
-        → Read parsers before bytes us rest → parsers (before ++ us) rest ≡ whole u len → Read parsers before bytes (us ++ u ∷ []) (drop len rest) }
-    ensures received_more { (parsers : Units → Parser) → ((us : Units) → IsIncremental (parsers us)) → (stream more : List ℕ) (us : Units) (rest : List ℕ) (r q : Option Refusal)
-        → Received parsers stream us rest r → IsRest (parsers us) (rest ++ more) q → Received parsers (stream ++ more) us (rest ++ more) q }
-    ensures received_push { (parsers : Units → Parser) → ((us : Units) → IsIncremental (parsers us)) → (stream more : List ℕ) (us : Units) (rest u : List ℕ) (r : Option Refusal)
-        → Received parsers stream us rest r → parsers us (rest ++ more) ≡ whole u (length (rest ++ more)) → Received parsers (stream ++ more) (us ++ u ∷ []) [] None }
+    ensures nothing { (parsers : Parsers) → ((us : Units) (ns : List ℕ) → IsIncremental (parsers us ns)) → Received parsers [] [] [] [] None }
+    ensures read_more { (parsers : Parsers) → ((us : Units) (ns : List ℕ) → IsIncremental (parsers us ns)) → (before : Units) (passed bytes more : List ℕ) (us : Units) (ns rest : List ℕ)
+        → Read parsers before passed bytes us ns rest → Read parsers before passed (bytes ++ more) us ns (rest ++ more) }
+    ensures read_push { (parsers : Parsers) (before : Units) (passed bytes : List ℕ) (us : Units) (ns rest u : List ℕ) (len : ℕ)
+        → Read parsers before passed bytes us ns rest → parsers (before ++ us) (passed ++ ns) rest ≡ whole u len
+        → Read parsers before passed bytes (us ++ u ∷ []) (ns ++ len ∷ []) (drop len rest) }
+    ensures received_more { (parsers : Parsers) → ((us : Units) (ns : List ℕ) → IsIncremental (parsers us ns)) → (stream more : List ℕ) (us : Units) (ns rest : List ℕ) (r q : Option Refusal)
+        → Received parsers stream us ns rest r → IsRest (parsers us ns) (rest ++ more) q → Received parsers (stream ++ more) us ns (rest ++ more) q }
+    ensures received_push { (parsers : Parsers) → ((us : Units) (ns : List ℕ) → IsIncremental (parsers us ns)) → (stream more : List ℕ) (us : Units) (ns rest u : List ℕ) (r : Option Refusal)
+        → Received parsers stream us ns rest r → parsers us ns (rest ++ more) ≡ whole u (length (rest ++ more))
+        → Received parsers (stream ++ more) (us ++ u ∷ []) (ns ++ length (rest ++ more) ∷ []) [] None }
 
     // A piece after the rest, which may go on after what was used of it: it ends a unit, or it
     // is refused, or more bytes are wanted.
-    ensures received_unit { (parsers : Units → Parser) → ((us : Units) → IsIncremental (parsers us)) → (stream piece : List ℕ) (us : Units) (rest u : List ℕ) (used : ℕ)
-        → Received parsers stream us rest None → used ≤ length piece → parsers us (rest ++ piece) ≡ whole u (length rest + used)
-        → Received parsers (stream ++ take used piece) (us ++ u ∷ []) [] None }
-    ensures received_refusal { (parsers : Units → Parser) → ((us : Units) → IsIncremental (parsers us)) → (stream piece : List ℕ) (us : Units) (rest : List ℕ) (r : Refusal) (used : ℕ)
-        → Received parsers stream us rest None → used ≤ length piece → parsers us (rest ++ piece) ≡ refused r (length rest + used)
-        → Received parsers (stream ++ take used piece) us (rest ++ take used piece) (Some r) }
-    ensures received_part { (parsers : Units → Parser) → ((us : Units) → IsIncremental (parsers us)) → (stream piece : List ℕ) (us : Units) (rest : List ℕ)
-        → Received parsers stream us rest None → parsers us (rest ++ piece) ≡ unfinished → Received parsers (stream ++ piece) us (rest ++ piece) None }
+    ensures received_unit { (parsers : Parsers) → ((us : Units) (ns : List ℕ) → IsIncremental (parsers us ns)) → (stream piece : List ℕ) (us : Units) (ns rest u : List ℕ) (used : ℕ)
+        → Received parsers stream us ns rest None → used ≤ length piece → parsers us ns (rest ++ piece) ≡ whole u (length rest + used)
+        → Received parsers (stream ++ take used piece) (us ++ u ∷ []) (ns ++ (length rest + used) ∷ []) [] None }
+    ensures received_refusal { (parsers : Parsers) → ((us : Units) (ns : List ℕ) → IsIncremental (parsers us ns)) → (stream piece : List ℕ) (us : Units) (ns rest : List ℕ) (r : Refusal) (used : ℕ)
+        → Received parsers stream us ns rest None → used ≤ length piece → parsers us ns (rest ++ piece) ≡ refused r (length rest + used)
+        → Received parsers (stream ++ take used piece) us ns (rest ++ take used piece) (Some r) }
+    ensures received_part { (parsers : Parsers) → ((us : Units) (ns : List ℕ) → IsIncremental (parsers us ns)) → (stream piece : List ℕ) (us : Units) (ns rest : List ℕ)
+        → Received parsers stream us ns rest None → parsers us ns (rest ++ piece) ≡ unfinished → Received parsers (stream ++ piece) us ns (rest ++ piece) None }
 
     // What is received of a prefix of a stream is a prefix of what is received of it.
-    ensures prefix { (parsers : Units → Parser) → ((us : Units) → IsIncremental (parsers us)) → (stream more : List ℕ) (us vs : Units) (x y : List ℕ) (r q : Option Refusal)
-        → Received parsers stream us x r → Received parsers (stream ++ more) vs y q → IsPrefix us vs }
+    ensures prefix { (parsers : Parsers) → ((us : Units) (ns : List ℕ) → IsIncremental (parsers us ns)) → (stream more : List ℕ) (us vs : Units) (ns ms x y : List ℕ) (r q : Option Refusal)
+        → Received parsers stream us ns x r → Received parsers (stream ++ more) vs ms y q → IsPrefix us vs }
 
     // The link: what was sent is received, a prefix of it as a prefix of its units, and nothing of it is refused.
-    ensures again { (parsers : Units → Parser) (spells : Units → List ℕ → List ℕ) → ((us : Units) → IsIncremental (parsers us))
-        → (stream : List ℕ) (sent : Units) → Sent spells stream sent → EachPlace (Spelled parsers spells) [] sent → Received parsers stream sent [] None }
-    ensures link { (parsers : Units → Parser) (spells : Units → List ℕ → List ℕ) → ((us : Units) → IsIncremental (parsers us))
-        → (stream received more : List ℕ) (sent us : Units) (rest : List ℕ) (r : Option Refusal)
-        → Sent spells stream sent → EachPlace (Spelled parsers spells) [] sent → stream ≡ received ++ more → Received parsers received us rest r → Linked us sent r }
-    ensures all { (parsers : Units → Parser) (spells : Units → List ℕ → List ℕ) → ((us : Units) → IsIncremental (parsers us))
-        → (stream : List ℕ) (sent us : Units) (rest : List ℕ) (r : Option Refusal)
-        → Sent spells stream sent → EachPlace (Spelled parsers spells) [] sent → Received parsers stream us rest r → ReceivedAll us sent rest r }
+    ensures again { (parsers : Parsers) (spells : Units → List ℕ → List ℕ) → ((us : Units) (ns : List ℕ) → IsIncremental (parsers us ns))
+        → (stream : List ℕ) (sent : Units) → Sent spells stream sent → EachPlace (Spelled parsers spells) [] sent → Received parsers stream sent (sizes_of spells [] sent) [] None }
+    ensures link { (parsers : Parsers) (spells : Units → List ℕ → List ℕ) → ((us : Units) (ns : List ℕ) → IsIncremental (parsers us ns))
+        → (stream received more : List ℕ) (sent us : Units) (ns rest : List ℕ) (r : Option Refusal)
+        → Sent spells stream sent → EachPlace (Spelled parsers spells) [] sent → stream ≡ received ++ more → Received parsers received us ns rest r → Linked us sent r }
+    // And the sizes that it is received with are those that it was spelled with.
+    ensures sizes { (parsers : Parsers) (spells : Units → List ℕ → List ℕ) → ((us : Units) (ns : List ℕ) → IsIncremental (parsers us ns))
+        → (stream received more : List ℕ) (sent us : Units) (ns rest : List ℕ) (r : Option Refusal)
+        → Sent spells stream sent → EachPlace (Spelled parsers spells) [] sent → stream ≡ received ++ more → Received parsers received us ns rest r → ns ≡ sizes_of spells [] us }
+    ensures all { (parsers : Parsers) (spells : Units → List ℕ → List ℕ) → ((us : Units) (ns : List ℕ) → IsIncremental (parsers us ns))
+        → (stream : List ℕ) (sent us : Units) (ns rest : List ℕ) (r : Option Refusal)
+        → Sent spells stream sent → EachPlace (Spelled parsers spells) [] sent → Received parsers stream us ns rest r → ReceivedAll us sent rest r }
 
     // What is sent further is spelled after it.
     ensures sent_push { (spells : Units → List ℕ → List ℕ) (stream : List ℕ) (us : Units) (u : List ℕ)
@@ -151,17 +157,17 @@ pub fn stream_law()
 /// Its premises are what `next` and `feed` ensure of the reader before and after, and that the next unit
 /// of the stream is read as the reader reads.
 pub fn receiving_law()
-    ensures receives { (m : SuiteData) (parsers : Units → Parser) → ((us : Units) → IsIncremental (parsers us)) → (stream : List ℕ) (us : Units)
+    ensures receives { (m : SuiteData) (parsers : Parsers) → ((us : Units) (ns : List ℕ) → IsIncremental (parsers us ns)) → (stream : List ℕ) (us : Units) (ns : List ℕ)
         (old : PacketReaderData) (new : PacketReader) (piece : List ℕ) (result : Result PacketStep PacketFault)
-        → Received parsers stream us old.held None → parsers us ≡ parse_packet (protection_at m old)
-        → ParseAnswer m old piece result → ReaderLeaves m old piece result new → ReceivesOn parsers stream us old piece result new }
+        → Received parsers stream us ns old.held None → parsers us ns ≡ parse_packet (protection_at m old)
+        → ParseAnswer m old piece result → ReaderLeaves m old piece result new → ReceivesOn parsers stream us ns old piece result new }
 
     // A line reader that stands open at the stream has received no unit of it, and all of it is rest.
-    ensures stands { (parsers : Units → Parser) (k : ℕ) (stream : List ℕ) (progress : Progress)
-        → parsers [] ≡ preamble_parser k → StandsOpen k stream progress → Received parsers stream [] stream None }
-    ensures receives_lines { (parsers : Units → Parser) → ((us : Units) → IsIncremental (parsers us)) → (k : ℕ) (stream piece : List ℕ)
+    ensures stands { (parsers : Parsers) (k : ℕ) (stream : List ℕ) (progress : Progress)
+        → parsers [] [] ≡ preamble_parser k → StandsOpen k stream progress → Received parsers stream [] [] stream None }
+    ensures receives_lines { (parsers : Parsers) → ((us : Units) (ns : List ℕ) → IsIncremental (parsers us ns)) → (k : ℕ) (stream piece : List ℕ)
         (old : Progress) (new : LineReaderData) (result : Result LineStep WireFault)
-        → parsers [] ≡ preamble_parser k → StandsOpen k stream old → PreambleAnswer k stream piece result new → ReceivesLinesOn parsers stream piece result new }
+        → parsers [] [] ≡ preamble_parser k → StandsOpen k stream old → PreambleAnswer k stream piece result new → ReceivesLinesOn parsers stream piece result new }
 {
     parser_law();
 }
@@ -169,11 +175,11 @@ pub fn receiving_law()
 /// The law of receiving lines that are read by any form: what `receiving_law` says of a `LineReader`, of a
 /// `PeerLineReader`, whose answers are those of `feed` in the words of `LineReader::feed` (`answer_of`).
 pub fn receiving_by_law()
-    ensures stands { (form : LineForm) (parsers : Units → Parser) (k : ℕ) (stream : List ℕ) (progress : Progress)
-        → parsers [] ≡ preamble_parser_by form k → StandsOpen k stream progress → Received parsers stream [] stream None }
-    ensures receives_lines { (form : LineForm) (parsers : Units → Parser) → ((us : Units) → IsIncremental (parsers us)) → (k : ℕ) (stream piece : List ℕ)
+    ensures stands { (form : LineForm) (parsers : Parsers) (k : ℕ) (stream : List ℕ) (progress : Progress)
+        → parsers [] [] ≡ preamble_parser_by form k → StandsOpen k stream progress → Received parsers stream [] [] stream None }
+    ensures receives_lines { (form : LineForm) (parsers : Parsers) → ((us : Units) (ns : List ℕ) → IsIncremental (parsers us ns)) → (k : ℕ) (stream piece : List ℕ)
         (old : Progress) (new : LineReaderData) (result : Result LineStep WireFault)
-        → parsers [] ≡ preamble_parser_by form k → StandsOpen k stream old → PreambleAnswerBy form k stream piece result new → ReceivesLinesOn parsers stream piece result new }
+        → parsers [] [] ≡ preamble_parser_by form k → StandsOpen k stream old → PreambleAnswerBy form k stream piece result new → ReceivesLinesOn parsers stream piece result new }
 {
     parser_by_law();
 }
@@ -181,10 +187,13 @@ pub fn receiving_by_law()
 /// The law of joined packets: what is read of a stream after its version line is packets one after
 /// another by the standard's own definition of a packet (RFC 4253 section 6), and nothing else is read.
 pub fn joined_law()
-    ensures found { (parsers : Units → Parser) (at : Units → ProtectionData) (version : List ℕ) → ((us : Units) → parsers (version ∷ us) ≡ parse_packet (at us)) → ((us : Units) → IsFaithful (at us))
-        → (before : Units) (bytes : List ℕ) (ps : Units) (rest : List ℕ) → IsBytes bytes → Read parsers (version ∷ before) bytes ps rest → Joined at before bytes ps rest }
-    ensures only { (parsers : Units → Parser) (at : Units → ProtectionData) (version : List ℕ) → ((us : Units) → parsers (version ∷ us) ≡ parse_packet (at us)) → ((us : Units) → IsFaithful (at us))
-        → (before : Units) (bytes : List ℕ) (ps : Units) (rest : List ℕ) → IsBytes bytes → Joined at before bytes ps rest → Read parsers (version ∷ before) bytes ps rest }
+    ensures found { (parsers : Parsers) (at : Units → List ℕ → ProtectionData) (version : List ℕ) (len : ℕ) → ((us : Units) (ns : List ℕ) → parsers (version ∷ us) (len ∷ ns) ≡ parse_packet (at us ns))
+        → ((us : Units) (ns : List ℕ) → IsFaithful (at us ns))
+        → (before : Units) (passed bytes : List ℕ) (ps : Units) (ns rest : List ℕ) → IsBytes bytes → Read parsers (version ∷ before) (len ∷ passed) bytes ps ns rest → Joined at before passed bytes ps rest }
+    ensures only { (parsers : Parsers) (at : Units → List ℕ → ProtectionData) (version : List ℕ) (len : ℕ) → ((us : Units) (ns : List ℕ) → parsers (version ∷ us) (len ∷ ns) ≡ parse_packet (at us ns))
+        → ((us : Units) (ns : List ℕ) → IsFaithful (at us ns))
+        → (before : Units) (passed bytes : List ℕ) (ps : Units) (rest : List ℕ) → IsBytes bytes → Joined at before passed bytes ps rest
+        → (ns : List ℕ) × Read parsers (version ∷ before) (len ∷ passed) bytes ps ns rest }
 {
     crate::packet_laws::packet_law();
     sshwire::bytes_law();

@@ -2,7 +2,7 @@
 
 ghost use Rattle.std.specs.Prelude.{◌≡◌, ◌<◌, ◌^◌, IfOk, length, option_map};
 ghost use Rattle.sshwire.specs.Types.{IsName};
-ghost use Rattle.sshpacket.specs.Suite.{IsAgreeing, IsLawful, SuiteData, response_data};
+ghost use Rattle.sshpacket.specs.Suite.{IsAgreeing, IsLawful, SuiteData, advanced, response_data};
 
 use crate::keys::Keys;
 use sshwire::{Memory, ShareForm};
@@ -59,6 +59,9 @@ pub struct Response {
 ///   by unsealing with the same keys and number; else no packet that is sent could be read. What
 ///   unsealing gives has the length that was read from the first four bytes, whoever sent it: a
 ///   reader stands on it.
+/// - A cipher may go on where the packet before it ended: after each packet `advance` makes the keys of the next one, of those
+///   and of how many bytes it had, on both sides alike. [`PacketReader`](crate::PacketReader) and
+///   [`write_next`](crate::write_next) call it; who calls [`write_sealed`](crate::write_sealed) has to, else a key stream comes again.
 /// - Shares, and what both sides share, are mpints or bytes, by the method's form ([`ShareForm`]), of
 ///   at most `SHARE_LIMIT` bytes, and the ranges that each call names hold: so every message and packet keeps
 ///   its bounds. A number is positive; what both sides share may be zero where the shares are bytes.
@@ -75,7 +78,7 @@ pub struct Response {
 ///   be given a blob that verifies everything, nor a signature that anyone can make. An endpoint asks the suite to
 ///   sign by keys that it holds alone, and tells the blob of others: that of a private key in a wrong form must
 ///   not be the key.
-/// - A number comes again after 2^32 packets, with the same keys.
+/// - A number comes again after 2^32 packets, with the same keys where `advance` leaves them as they are.
 /// - A MAC is chosen and named also for a cipher with a tag of its own, and is then ignored by the
 ///   suite.
 ///
@@ -98,9 +101,10 @@ pub struct Response {
 /// | Algorithms | Fit |
 /// |---|---|
 /// | chacha20-poly1305@openssh.com | yes |
-/// | aes128-gcm@openssh.com, aes256-gcm@openssh.com | only where both sides are strict: a packet's nonce tells how many came before it under the same keys, and its number tells that only where numbers begin anew with the keys. A config is willing to be strict, and can't ask it of the peer |
-/// | aes128-ctr and each other -ctr, each -cbc | no: what is sealed depends on the packets before |
-/// | hmac-sha2-256, hmac-sha2-256-etm@openssh.com, umac-64@openssh.com and their like | as MACs they do; no cipher that is deployed beside them does |
+/// | aes128-gcm@openssh.com, aes256-gcm@openssh.com | yes: `advance` raises the counter in the nonce. By the packet's number alone only where both sides are strict |
+/// | aes128-ctr and each other -ctr | yes: `advance` raises the counter by the packet's blocks |
+/// | each -cbc | no: a packet depends on the bytes that were sealed before it, and `advance` is told only how many there were |
+/// | hmac-sha2-256, hmac-sha2-256-etm@openssh.com, umac-64@openssh.com and their like | yes, beside -ctr |
 /// | curve25519-sha256, curve448-sha512 (RFC 8731), ecdh-sha2-nistp256 and its like (RFC 5656), diffie-hellman-group14-sha256 and its like (RFC 8268), mlkem768x25519-sha256, sntrup761x25519-sha512 | yes |
 /// | group exchange (RFC 4419), RSA key exchange (RFC 4432), GSS-API (RFC 4462) | no: they have other messages |
 /// | ssh-ed25519, ssh-ed448, ecdsa-sha2-nistp256 and its like, rsa-sha2-256, rsa-sha2-512 | yes |
@@ -164,6 +168,13 @@ pub trait Suite {
     ) -> Result<Option<Vec<u8>>, Memory>
         requires { length sealed.now < 2 ^ 32 }
         ensures { IfOk result (λ o. option_map (λ v. v.items) o ≡ (meaning self.now).unseal keys.now seq sealed.now) };
+
+    /// Makes the keys of the next packet of those of a packet of so many bytes, its tag among them: the
+    /// initialisation vector may be another one of the same length. A cipher whose packets don't depend on those
+    /// before them does nothing here. It takes no memory.
+    fn advance(&self, keys: &mut Keys, len: usize)
+        ensures next { keys.new ≡ advanced (meaning self.now) keys.old len }
+        ensures length { length keys.new.iv ≡ length keys.old.iv };
 
     /// So many bytes of padding for the packet with this number.
     fn padding(&self, alloc: Global, seed: &[u8], seq: u32, len: u8) -> Result<Vec<u8>, Memory>

@@ -7,7 +7,7 @@ ghost use Rattle.sshwire.specs.Types.{IsBytes};
 ghost use Rattle.sshpacket.specs.Packet.{IsPacket, IsPadding, packet};
 ghost use Rattle.sshpacket.specs.Parse.{parse_packet, protection, whole};
 ghost use Rattle.sshpacket.specs.Suite.{SuiteData};
-ghost use Rattle.sshpacket.specs.Written.{IsWritten, written, written_clear, written_sealed};
+ghost use Rattle.sshpacket.specs.Written.{IsWritten, after_sealed, sealed_size, written, written_clear, written_sealed};
 
 use crate::keys::Keys;
 use crate::padding::least_padding_len;
@@ -41,7 +41,8 @@ pub fn write_clear<S: Suite>(
     Ok(())
 }
 
-/// Appends the packet of a payload, sealed with the keys, otherwise as [`write_clear`] does.
+/// Appends the packet of a payload, sealed with the keys, otherwise as [`write_clear`] does. The keys stay as they are: a
+/// second packet sealed with them may have the key stream of the first, so [`write_next`] is for packets one after another.
 pub fn write_sealed<S: Suite>(
     alloc: Global,
     suite: &S,
@@ -66,6 +67,48 @@ pub fn write_sealed<S: Suite>(
     let sealed = suite.seal(alloc, keys, seq, &clear)?;
     out.extend_from_slice(&sealed)?;
     Ok(())
+}
+
+/// Appends the packet of a payload as [`write_sealed`] does, and makes the keys those of the next packet. Where an
+/// allocation failed the keys are as before, too.
+pub fn write_next<S: Suite>(
+    alloc: Global,
+    suite: &S,
+    keys: &mut Keys,
+    seq: u32,
+    payload: &[u8],
+    seed: &[u8],
+    out: &mut Vec<u8>,
+) -> Result<(), Memory>
+    requires some { 0 < length payload.now }
+    requires payload { length payload.now ≤ PAYLOAD_LIMIT }
+    requires seed { length seed.now < 2 ^ 32 }
+    ensures appends { out.new.items ≡ (if is_ok result then out.old.items ++ written_sealed (S.meaning suite.now) keys.old seed.now seq payload.now else out.old.items) }
+    ensures next { keys.new ≡ (if is_ok result then after_sealed (S.meaning suite.now) keys.old payload.now else keys.old) }
+    ensures length { length keys.new.iv ≡ length keys.old.iv }
+    // What is sealed is a packet of the payload with the least padding.
+    ensures packet { IsWritten ((S.meaning suite.now).counts_length keys.old.cipher keys.old.mac) ((S.meaning suite.now).block keys.old.cipher) ((S.meaning suite.now).tag_len keys.old.cipher keys.old.mac) payload.now
+        (written (S.meaning suite.now) ((S.meaning suite.now).counts_length keys.old.cipher keys.old.mac) ((S.meaning suite.now).block keys.old.cipher) seed.now seq payload.now) }
+{
+    let size = size_of(suite, keys, payload);
+    write_sealed(alloc, suite, keys, seq, payload, seed, out)?;
+    suite.advance(keys, size);
+    Ok(())
+}
+
+/// How many bytes the sealed packet of a payload has with its tag.
+#[tactic(auto, unfolding(crate::specs::Written::sealed_size))]
+fn size_of<S: Suite>(suite: &S, keys: &Keys, payload: &[u8]) -> usize
+    requires payload { length payload.now ≤ PAYLOAD_LIMIT }
+    ensures { result ≡ sealed_size (S.meaning suite.now) keys.now payload.now }
+{
+    let block = suite.block(keys.cipher());
+    let padding = least_padding_len(
+        suite.counts_length(keys.cipher(), keys.mac()),
+        block,
+        payload.len(),
+    );
+    5 + payload.len() + usize::from(padding) + usize::from(suite.tag_len(keys.cipher(), keys.mac()))
 }
 
 /// What is sealed for a payload is a packet with the least padding.

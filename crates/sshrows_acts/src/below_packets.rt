@@ -79,7 +79,7 @@ fn step<S: Suite>(
             same_count(alloc, line, "used", count_of(count), used)
         }
         "keys" => use_keys(alloc, names, line, receiver, rest),
-        "clear" | "sealed" => judge_written(alloc, names, suite, line, word, rest),
+        "clear" | "next" | "sealed" => judge_written(alloc, names, suite, line, word, rest),
         _ => look(alloc, names, line, receiver, word, rest),
     }
 }

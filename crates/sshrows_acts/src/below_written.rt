@@ -1,12 +1,15 @@
 //! Rows of packets that are written, and the keys that rows of packets name.
 
+ghost use Rattle.std.specs.Prelude.{◌≡◌, ◌<◌, ◌≤◌, length, true};
+ghost use Rattle.sshwire.specs.declared.limits.TheConstants.{PAYLOAD_LIMIT};
+
 use crate::names::Names;
 use crate::refusals::{stopped, vector};
 use crate::stop::Stop;
 use crate::terms::bytes_of;
-use crate::texts::{BEFORE, number_of, stands_after, wrong};
+use crate::texts::{BEFORE, number_of, same_bytes, stands_after, wrong};
 use crate::words::{Line, split_word};
-use sshpacket::{KeyParts, Keys, Suite, write_clear, write_sealed};
+use sshpacket::{KeyParts, Keys, Suite, write_clear, write_next, write_sealed};
 use sshwire::{PAYLOAD_LIMIT, as_name};
 use std::alloc::Global;
 
@@ -56,7 +59,8 @@ fn keys_with(
 }
 
 /// `clear NUMBER SEED PAYLOAD PACKET` or `sealed CIPHER MAC IV ENC MACKEY NUMBER SEED PAYLOAD PACKET`: the
-/// packet of a payload has to be written as these bytes, after what stood there.
+/// packet of a payload has to be written as these bytes, after what stood there. `next`, with what `sealed` has and an IV: so,
+/// too, and its keys have to go on with this vector.
 pub(crate) fn judge_written<S: Suite>(
     alloc: Global,
     names: &Names,
@@ -66,53 +70,116 @@ pub(crate) fn judge_written<S: Suite>(
     rest: &str,
 ) -> Result<(), Stop> {
     if word == "clear" {
-        return judge_packet(alloc, names, suite, line, None, rest);
+        let (packet, wanted) = packet_of(alloc, names, line, rest)?;
+        return judge_packet(alloc, names, suite, line, None, &packet, wanted);
     }
     let (keys, rest) = keys_of(alloc, names, line, rest)?;
-    judge_packet(alloc, names, suite, line, Some(&keys), rest)
-}
-
-/// Judges what is written with these keys, or in clear: `NUMBER SEED PAYLOAD PACKET`.
-fn judge_packet<S: Suite>(
-    alloc: Global,
-    names: &Names,
-    suite: &S,
-    line: &Line<'_>,
-    keys: Option<&Keys>,
-    words: &str,
-) -> Result<(), Stop> {
-    let mut out = Vec::from_slice(alloc, BEFORE)?;
-    match put_packet(alloc, names, suite, line, keys, words, &mut out) {
-        Ok(wanted) => {
-            let wanted = bytes_of(alloc, names, line, wanted)?;
-            stands_after(alloc, line, "written", &wanted, &out)
-        }
-        Err(stop) => Err(stopped(alloc, line, stop, vector(out.as_slice() == BEFORE))),
+    let (packet, wanted) = packet_of(alloc, names, line, rest)?;
+    if word == "next" {
+        return judge_next(alloc, names, suite, line, keys, &packet, wanted);
     }
+    judge_packet(alloc, names, suite, line, Some(&keys), &packet, wanted)
 }
 
-/// Writes the packet of `NUMBER SEED PAYLOAD`, and answers what stands after them.
-fn put_packet<'a, S: Suite>(
+/// What a packet is written of.
+#[derive(Drop)]
+struct Packet {
+    number: u32,
+    seed: Vec<u8>,
+    payload: Vec<u8>,
+}
+
+/// What `NUMBER SEED PAYLOAD` are, and what stands after them.
+fn packet_of<'a>(
     alloc: Global,
     names: &Names,
-    suite: &S,
     line: &Line<'_>,
-    keys: Option<&Keys>,
     words: &'a str,
-    out: &mut Vec<u8>,
-) -> Result<&'a str, Stop> {
+) -> Result<(Packet, &'a str), Stop> {
     let (number, words) = split_word(words);
     let (seed, words) = split_word(words);
     let (payload, words) = split_word(words);
     let number = number_of(alloc, line, number)?;
     let seed = bytes_of(alloc, names, line, seed)?;
     let payload = bytes_of(alloc, names, line, payload)?;
-    if payload.is_empty() || payload.len() > PAYLOAD_LIMIT || seed.len() > PAYLOAD_LIMIT {
+    let packet = Packet {
+        number,
+        seed,
+        payload,
+    };
+    Ok((packet, words))
+}
+
+/// Judges what is written with these keys, or in clear.
+fn judge_packet<S: Suite>(
+    alloc: Global,
+    names: &Names,
+    suite: &S,
+    line: &Line<'_>,
+    keys: Option<&Keys>,
+    packet: &Packet,
+    wanted: &str,
+) -> Result<(), Stop> {
+    if !fits(packet) {
         return wrong(alloc, line, "term", "a payload", "none, or too many bytes");
     }
-    match keys {
-        None => write_clear(alloc, suite, number, &payload, &seed, out)?,
-        Some(keys) => write_sealed(alloc, suite, keys, number, &payload, &seed, out)?,
+    let mut out = Vec::from_slice(alloc, BEFORE)?;
+    let (number, payload, seed) = (packet.number, &packet.payload, &packet.seed);
+    let written = match keys {
+        None => write_clear(alloc, suite, number, payload, seed, &mut out),
+        Some(keys) => write_sealed(alloc, suite, keys, number, payload, seed, &mut out),
+    };
+    match written {
+        Ok(()) => {
+            let wanted = bytes_of(alloc, names, line, wanted)?;
+            stands_after(alloc, line, "written", &wanted, &out)
+        }
+        Err(memory) => Err(stopped(
+            alloc,
+            line,
+            Stop::from(memory),
+            vector(out.as_slice() == BEFORE),
+        )),
     }
-    Ok(words)
+}
+
+/// Judges what is written with these keys, and the vector with which they go on: `PACKET IV`. Where memory runs out both are
+/// as before.
+fn judge_next<S: Suite>(
+    alloc: Global,
+    names: &Names,
+    suite: &S,
+    line: &Line<'_>,
+    keys: Keys,
+    packet: &Packet,
+    words: &str,
+) -> Result<(), Stop> {
+    if !fits(packet) {
+        return wrong(alloc, line, "term", "a payload", "none, or too many bytes");
+    }
+    let mut keys = keys;
+    let before = Vec::from_slice(alloc, keys.iv())?;
+    let mut out = Vec::from_slice(alloc, BEFORE)?;
+    let (number, payload, seed) = (packet.number, &packet.payload, &packet.seed);
+    match write_next(alloc, suite, &mut keys, number, payload, seed, &mut out) {
+        Ok(()) => {
+            let (wanted, iv) = split_word(words);
+            let wanted = bytes_of(alloc, names, line, wanted)?;
+            stands_after(alloc, line, "written", &wanted, &out)?;
+            let iv = bytes_of(alloc, names, line, iv)?;
+            same_bytes(alloc, line, "next vector", &iv, keys.iv())
+        }
+        Err(memory) => {
+            let kept = out.as_slice() == BEFORE && before.as_slice() == keys.iv();
+            Err(stopped(alloc, line, Stop::from(memory), vector(kept)))
+        }
+    }
+}
+
+/// Whether this can be written: a payload has 1 to `PAYLOAD_LIMIT` bytes.
+fn fits(packet: &Packet) -> bool
+    ensures { result ≡ true → (0 < length packet.now.payload.items) × (length packet.now.payload.items ≤ PAYLOAD_LIMIT) × (length packet.now.seed.items ≤ PAYLOAD_LIMIT) }
+{
+    let (payload, seed) = (packet.payload.len(), packet.seed.len());
+    payload > 0 && payload <= PAYLOAD_LIMIT && seed <= PAYLOAD_LIMIT
 }

@@ -10,8 +10,9 @@ use crate::texts::{nothing_after, same_bytes, same_text, shows, wrong};
 use crate::words::{Line, split_word};
 use sshcore::{ClientConfig, ClientParts, ConfigFault, ServerConfig, ServerParts, SuiteFault};
 use sshmsg::{KexInit, Message, write};
+use sshpacket::{Inventory, KeysElsewhere};
 use sshsuite::DeployedSuite;
-use sshsuites::LabSuite;
+use sshsuites::{KemSuite, LabSuite};
 use std::alloc::Global;
 
 /// Judges a config of a client or a server: lines that change its parts, and after them what comes of it.
@@ -122,8 +123,8 @@ fn refused(alloc: Global, line: &Line<'_>, fault: &ConfigFault) -> Result<(), St
     }
 }
 
-/// A config was judged over the suite of deployed algorithms, or its names were: `fits`, or the refusal as it is printed.
-fn judged_deployed(
+/// A config was judged over a suite, or its names were: `fits`, or the refusal as it is printed.
+fn same_fit(
     alloc: Global,
     line: &Line<'_>,
     wanted: &str,
@@ -132,6 +133,70 @@ fn judged_deployed(
     match found {
         Ok(()) => same_text(alloc, line, "suite", wanted, "fits"),
         Err(fault) => shows(alloc, line, "suite", wanted, &fault),
+    }
+}
+
+/// Judges a client's config over the suite whose name the line has, and without one over that of deployed algorithms.
+fn judge_client_fit(
+    alloc: Global,
+    line: &Line<'_>,
+    word: &str,
+    rest: &str,
+    config: &ClientConfig,
+) -> Result<(), Stop> {
+    let (suite, wanted) = split_word(rest);
+    match suite {
+        "lab" => same_fit(alloc, line, wanted, client_fit(config, word, &LabSuite)),
+        "second" => same_fit(alloc, line, wanted, client_fit(config, word, &KemSuite)),
+        "elsewhere" => {
+            let suite = KeysElsewhere { suite: LabSuite };
+            same_fit(alloc, line, wanted, client_fit(config, word, &suite))
+        }
+        _ => same_fit(alloc, line, rest, client_fit(config, word, &DeployedSuite)),
+    }
+}
+
+/// Judges a client's config over a suite, or its names alone where the word is `named`.
+fn client_fit<'a, S: Inventory>(
+    config: &'a ClientConfig,
+    word: &str,
+    suite: &S,
+) -> Result<(), SuiteFault<'a>> {
+    match word {
+        "named" => config.judge_names(suite),
+        _ => config.judge(suite),
+    }
+}
+
+/// Judges a server's config over such a suite.
+fn judge_server_fit(
+    alloc: Global,
+    line: &Line<'_>,
+    word: &str,
+    rest: &str,
+    config: &ServerConfig,
+) -> Result<(), Stop> {
+    let (suite, wanted) = split_word(rest);
+    match suite {
+        "lab" => same_fit(alloc, line, wanted, server_fit(config, word, &LabSuite)),
+        "second" => same_fit(alloc, line, wanted, server_fit(config, word, &KemSuite)),
+        "elsewhere" => {
+            let suite = KeysElsewhere { suite: LabSuite };
+            same_fit(alloc, line, wanted, server_fit(config, word, &suite))
+        }
+        _ => same_fit(alloc, line, rest, server_fit(config, word, &DeployedSuite)),
+    }
+}
+
+/// Judges a server's config over a suite, or its names alone where the word is `named`.
+fn server_fit<'a, S: Inventory>(
+    config: &'a ServerConfig,
+    word: &str,
+    suite: &S,
+) -> Result<(), SuiteFault<'a>> {
+    match word {
+        "named" => config.judge_names(suite),
+        _ => config.judge(suite),
     }
 }
 
@@ -155,8 +220,7 @@ fn accepted_client(
             let found = payload_of(alloc, config.kexinit()?)?;
             judge_kexinit(alloc, names, line, rest, &found)
         }
-        "judged" => judged_deployed(alloc, line, rest, config.judge(&DeployedSuite)),
-        "named" => judged_deployed(alloc, line, rest, config.judge_names(&DeployedSuite)),
+        "judged" | "named" => judge_client_fit(alloc, line, word, rest, config),
         "generous" => {
             let row = Row {
                 names,
@@ -187,8 +251,7 @@ fn accepted_server(
             let found = payload_of(alloc, config.kexinit()?)?;
             judge_kexinit(alloc, names, line, rest, &found)
         }
-        "judged" => judged_deployed(alloc, line, rest, config.judge(&DeployedSuite)),
-        "named" => judged_deployed(alloc, line, rest, config.judge_names(&DeployedSuite)),
+        "judged" | "named" => judge_server_fit(alloc, line, word, rest, config),
         "generous" => {
             let row = Row {
                 names,

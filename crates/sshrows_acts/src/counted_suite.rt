@@ -123,6 +123,10 @@ impl<S: Suite> Suite for CountedSuite<S> {
         self.suite.unseal(alloc, keys, seq, sealed)
     }
 
+    fn advance(&self, keys: &mut Keys, len: usize) {
+        self.suite.advance(keys, len)
+    }
+
     fn padding(&self, alloc: Global, seed: &[u8], seq: u32, len: u8) -> Result<Vec<u8>, Memory> {
         self.suite.padding(alloc, seed, seq, len)
     }

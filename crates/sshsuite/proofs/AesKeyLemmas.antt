@@ -6,8 +6,8 @@ use Rattle.std.proofs.lemmas.List.{get_or-append_right, length-append}
 use Rattle.std.proofs.Math.ListN.{get_or-append}
 use Rattle.std.specs.Int.Bits.{xor_assoc, xor_zero_r}
 use Rattle.std.specs.Prelude.{bit_xor, slice_index}
-use Rattle.sshsuite.specs.Aes.{cipher, last_word, next_pair, number_at, round_keys, sub_bytes, summed_words, turned_words}
-use Rattle.sshsuite.specs.AesBytes.{IsExpanded, block_of, encrypted_state, key_state, s_box}
+use Rattle.sshsuite.specs.Aes.{cipher, last_word, next_key, next_pair, number_at, round_keys, short_round_keys, sub_bytes, summed_words, turned_words}
+use Rattle.sshsuite.specs.AesBytes.{IsExpanded, IsShortSchedule, block_of, encrypted_state, key_state, s_box, xtime, xtime_by}
 use Rattle.sshsuite.proofs.AesLemmas.{AreBytes, by_xor, s_box_byte, same_until, sub_bytes_is, xor_byte}
 use Rattle.sshsuite.proofs.AesStateLemmas.{below_4, below_8, cipher_is, either_byte, next, number_is, split_12, split_8, turned_words_is}
 
@@ -144,13 +144,13 @@ two1 f n m e = ap f e
 both2 : (a b c d : ℕ) → a ≡ b → c ≡ d → bit_xor a c ≡ bit_xor b d
 both2 a b c d e g = ap (λ (x : ℕ). bit_xor x c) e ∙ ap (bit_xor b) g
 
--- a round key of its words, by the one before the last and what the first word takes in
-words_are : (w : ℕ → ℕ → ℕ) (n i : ℕ) (t : ℕ → ℕ) → i < 16
-    → (w (n + 8) (i % 4) ≡ bit_xor (w n (i % 4)) (t (i % 4)))
-    → ((k : ℕ) → k < 3 → w (n + 8 + (k + 1)) (i % 4) ≡ bit_xor (w (n + (k + 1)) (i % 4)) (w (n + 8 + k) (i % 4)))
+-- a round key of its words, by the one that a key's words are before it and what the first word takes in
+words_are : (w : ℕ → ℕ → ℕ) (words n i : ℕ) (t : ℕ → ℕ) → i < 16
+    → (w (n + words) (i % 4) ≡ bit_xor (w n (i % 4)) (t (i % 4)))
+    → ((k : ℕ) → k < 3 → w (n + words + (k + 1)) (i % 4) ≡ bit_xor (w (n + (k + 1)) (i % 4)) (w (n + words + k) (i % 4)))
     → (f : ℕ → ℕ) → ((k : ℕ) → k < 16 → f k ≡ w (n + k / 4) (k % 4))
-    → bit_xor (sum_of f i) (t (i % 4)) ≡ w (n + 8 + i / 4) (i % 4)
-words_are w n i t low zeroth more f is =
+    → bit_xor (sum_of f i) (t (i % 4)) ≡ w (n + words + i / 4) (i % 4)
+words_are w words n i t low zeroth more f is =
     let r : ℕ = i % 4 in
     let small : r < 4 = omega arith in
     let place : i ≡ 4 * (i / 4) + r = omega arith in
@@ -160,8 +160,8 @@ words_are w n i t low zeroth more f is =
     let f2 : f (8 + r) ≡ o 2 = is (8 + r) (omega arith) ∙ two w (n + (8 + r) / 4) (n + 2) ((8 + r) % 4) r (omega arith) (omega arith) in
     let f3 : f (12 + r) ≡ o 3 = is (12 + r) (omega arith) ∙ two w (n + (12 + r) / 4) (n + 3) ((12 + r) % 4) r (omega arith) (omega arith) in
     ap (λ (x : ℕ). bit_xor (sum_of f x) (t r)) place
-    ∙ chain o (λ k. w (n + 8 + k) r) (t r) (i / 4) (omega arith)
-    (two w (n + 8 + 0) (n + 8) r r (omega arith) refl ∙ (zeroth ∙ ap (λ (x : ℕ). bit_xor x (t r)) (two w n (n + 0) r r (omega arith) refl)))
+    ∙ chain o (λ k. w (n + words + k) r) (t r) (i / 4) (omega arith)
+    (two w (n + words + 0) (n + words) r r (omega arith) refl ∙ (zeroth ∙ ap (λ (x : ℕ). bit_xor x (t r)) (two w n (n + 0) r r (omega arith) refl)))
     more (λ k. sum_of f (4 * k + r))
     (two1 (sum_of f) (4 * 0 + r) r (omega arith) ∙ (sum_0 f r small ∙ f0))
     (two1 (sum_of f) (4 * 1 + r) (4 + r) (omega arith) ∙ (sum_1 f r small ∙ both2 (f (4 + r)) (o 1) (f r) (o 0) f1 f0))
@@ -238,7 +238,7 @@ first_key key w m low expanded bytes =
     let g : ℕ → ℕ = λ i. w (4 * (2 * m + 1) + i / 4) (i % 4) in
     first_is f g (2 ^ m) (λ i. bytes (4 * (2 * m) + i / 4) (i % 4)) (λ i. bytes (4 * (2 * m + 1) + i / 4) (i % 4)) (constant_small m low)
     ∙ same_until 16 _ (λ i. w (4 * (2 * m + 2) + i / 4) (i % 4)) (λ i small.
-    words_are w (4 * (2 * m)) i (taken g (2 ^ m)) small (zeroth m (i % 4) low (omega arith))
+    words_are w 8 (4 * (2 * m)) i (taken g (2 ^ m)) small (zeroth m (i % 4) low (omega arith))
     (λ k tiny. others_are key w (2 * m) (i % 4) k expanded (omega arith) tiny) f (λ k _. refl)
     ∙ two w (4 * (2 * m) + 8 + i / 4) (4 * (2 * m + 2) + i / 4) (i % 4) (i % 4) (omega arith) refl)
   where
@@ -260,7 +260,7 @@ second_key key w m low expanded bytes =
     let a : ℕ → ℕ = λ i. w (4 * (2 * m + 2) + i / 4) (i % 4) in
     second_is g a (λ i. bytes (4 * (2 * m + 1) + i / 4) (i % 4)) (λ i. bytes (4 * (2 * m + 2) + i / 4) (i % 4))
     ∙ same_until 16 _ (λ i. w (4 * (2 * m + 3) + i / 4) (i % 4)) (λ i small.
-    words_are w (4 * (2 * m + 1)) i (λ r. s_box (a (12 + r))) small (zeroth m (i % 4) low (omega arith))
+    words_are w 8 (4 * (2 * m + 1)) i (λ r. s_box (a (12 + r))) small (zeroth m (i % 4) low (omega arith))
     (λ k tiny. others_are key w (2 * m + 1) (i % 4) k expanded (omega arith) tiny) g (λ k _. refl)
     ∙ two w (4 * (2 * m + 1) + 8 + i / 4) (4 * (2 * m + 3) + i / 4) (i % 4) (i % 4) (omega arith) refl)
   where
@@ -304,6 +304,9 @@ length_blocks w (suc n) =
     let before = length_blocks w n in
     let both = length-append (key_blocks w n) (block_of 16 (key_state w n) ∷ []) in
     omega (arith, before, both)
+
+keys_long : (keys : List ℕ) (w : ℕ → ℕ → ℕ) (n : ℕ) → keys ≡ key_blocks w n → length keys ≡ n
+keys_long keys w n are = ap (λ (ks : List ℕ). length ks) are ∙ length_blocks w n
 
 block_at : (w : ℕ → ℕ → ℕ) (n j : ℕ) → j < n → slice_index (key_blocks w n) j ≡ block_of 16 (key_state w j)
 unfolding key_blocks
@@ -363,7 +366,107 @@ round_keys_are bytes w expanded small =
     all_of p0 p1 p2 p3 p4 p5 p6 (next_pair p6 64) w q0 q1 q2 q3 q4 q5 q6 q7
 
 pub cipher_by_key : (key : List ℕ) (w : ℕ → ℕ → ℕ) (state : ℕ → ℕ) → IsExpanded (λ k. slice_index key k) w → ((n r : ℕ) → w n r < 2 ^ 8)
-    → ((i : ℕ) → state i < 2 ^ 8) → cipher (round_keys key) (block_of 16 state) ≡ block_of 16 (encrypted_state (key_state w) state)
+    → ((i : ℕ) → state i < 2 ^ 8) → cipher (round_keys key) (block_of 16 state) ≡ block_of 16 (encrypted_state 14 (key_state w) state)
 cipher_by_key key w state expanded small h =
-    cipher_is (round_keys key) (key_state w) state (λ j. schedule_bytes w small j)
+    cipher_is (round_keys key) (key_state w) state 14 (omega arith) (keys_long (round_keys key) w 15 (round_keys_are key w expanded small))
+    (λ j. schedule_bytes w small j)
     (λ j low. ap (λ (ks : List ℕ). slice_index ks j) (round_keys_are key w expanded small) ∙ block_at w 15 j low) h
+
+-- A key of 16 bytes: the round key after one.
+short_constant : (m : ℕ) → m < 10 → xtime_by 1 m < 2 ^ 8
+unfolding xtime_by xtime
+short_constant zero h = omega arith
+short_constant (suc zero) h = omega arith
+short_constant (suc (suc zero)) h = omega arith
+short_constant (suc (suc (suc zero))) h = omega arith
+short_constant (suc (suc (suc (suc zero)))) h = omega arith
+short_constant (suc (suc (suc (suc (suc zero))))) h = omega arith
+short_constant (suc (suc (suc (suc (suc (suc zero)))))) h = omega arith
+short_constant (suc (suc (suc (suc (suc (suc (suc zero))))))) h = omega arith
+short_constant (suc (suc (suc (suc (suc (suc (suc (suc zero)))))))) h = omega arith
+short_constant (suc (suc (suc (suc (suc (suc (suc (suc (suc zero))))))))) h = omega arith
+short_constant (suc (suc (suc (suc (suc (suc (suc (suc (suc (suc m)))))))))) h = absurd (omega arith)
+
+short_others : (key : ℕ → ℕ) (w : ℕ → ℕ → ℕ) (m r k : ℕ) → IsShortSchedule key w → r < 4 → k < 3
+    → w (4 * m + 4 + (k + 1)) r ≡ bit_xor (w (4 * m + (k + 1)) r) (w (4 * m + 4 + k) r)
+short_others key w m r k schedule low small =
+    two w (4 * m + 4 + (k + 1)) (4 * m + (k + 1) + 4) r r (omega arith) refl
+    ∙ (schedule.other (4 * m + (k + 1)) r (none m k small) low
+    ∙ ap (bit_xor (w (4 * m + (k + 1)) r)) (two w (4 * m + (k + 1) + 3) (4 * m + 4 + k) r r (omega arith) refl))
+  where
+    none : (m k : ℕ) → k < 3 → (4 * m + (k + 1)) % 4 ≡ 0 → ⊥
+    none m k h e = omega (arith, e)
+
+next_key_is : (key : ℕ → ℕ) (w : ℕ → ℕ → ℕ) (m last : ℕ) → m < 10 → IsShortSchedule key w → ((n r : ℕ) → w n r < 2 ^ 8)
+    → last ≡ block_of 16 (key_state w m) → next_key last (xtime_by 1 m) ≡ block_of 16 (key_state w (m + 1))
+unfolding next_key key_state
+next_key_is key w m last low schedule bytes is =
+    let f : ℕ → ℕ = λ i. w (4 * m + i / 4) (i % 4) in
+    let h : AreBytes f = λ i. bytes (4 * m + i / 4) (i % 4) in
+    ap (λ (x : ℕ). next_key x (xtime_by 1 m)) is
+    ∙ (first_is f f (xtime_by 1 m) h h (short_constant m low)
+    ∙ same_until 16 _ (λ i. w (4 * (m + 1) + i / 4) (i % 4)) (λ i small.
+    words_are w 4 (4 * m) i (taken f (xtime_by 1 m)) small (zeroth (i % 4) (omega arith))
+    (λ k tiny. short_others key w m (i % 4) k schedule (omega arith) tiny) f (λ k _. refl)
+    ∙ two w (4 * m + 4 + i / 4) (4 * (m + 1) + i / 4) (i % 4) (i % 4) (omega arith) refl))
+  where
+    zeroth : (r : ℕ) → r < 4 → w (4 * m + 4) r
+        ≡ bit_xor (w (4 * m) r) (bit_xor (s_box (w (4 * m + (12 + (r + 1) % 4) / 4) ((12 + (r + 1) % 4) % 4))) (cond (eqb r 0) (xtime_by 1 m) 0))
+    zeroth r small =
+        schedule.fourth m r low small
+        ∙ ap (λ (x : ℕ). bit_xor (w (4 * m) r) (bit_xor (s_box x) (cond (eqb r 0) (xtime_by 1 m) 0)))
+        (two w (4 * m + 3) (4 * m + (12 + (r + 1) % 4) / 4) ((r + 1) % 4) ((12 + (r + 1) % 4) % 4) (omega arith) (omega arith))
+
+-- the first
+short_start : (bytes : List ℕ) (w : ℕ → ℕ → ℕ) → IsShortSchedule (λ k. slice_index bytes k) w → number_at bytes 0 ≡ block_of 16 (key_state w 0)
+unfolding key_state
+short_start bytes w schedule =
+    number_is bytes 0
+    ∙ same_until 16 (λ k. slice_index bytes (0 + k)) (λ i. w (4 * 0 + i / 4) (i % 4)) (λ i small.
+    ap (slice_index bytes) (let e : 0 + i ≡ 4 * (4 * 0 + i / 4) + i % 4 = omega arith in e)
+    ∙ sym (schedule.first (4 * 0 + i / 4) (i % 4) (omega arith) (omega arith)))
+
+all_short : (k0 k1 k2 k3 k4 k5 k6 k7 k8 k9 k10 : ℕ) (w : ℕ → ℕ → ℕ)
+    → k0 ≡ block_of 16 (key_state w 0) → k1 ≡ block_of 16 (key_state w 1) → k2 ≡ block_of 16 (key_state w 2) → k3 ≡ block_of 16 (key_state w 3)
+    → k4 ≡ block_of 16 (key_state w 4) → k5 ≡ block_of 16 (key_state w 5) → k6 ≡ block_of 16 (key_state w 6) → k7 ≡ block_of 16 (key_state w 7)
+    → k8 ≡ block_of 16 (key_state w 8) → k9 ≡ block_of 16 (key_state w 9) → k10 ≡ block_of 16 (key_state w 10)
+    → k0 ∷ k1 ∷ k2 ∷ k3 ∷ k4 ∷ k5 ∷ k6 ∷ k7 ∷ k8 ∷ k9 ∷ k10 ∷ [] ≡ key_blocks w 11
+unfolding key_blocks
+all_short k0 k1 k2 k3 k4 k5 k6 k7 k8 k9 k10 w q0 q1 q2 q3 q4 q5 q6 q7 q8 q9 q10 =
+    rw (q0, q1, q2, q3, q4, q5, q6, q7, q8, q9, q10) refl
+
+short_keys_are : (bytes : List ℕ) (w : ℕ → ℕ → ℕ) → IsShortSchedule (λ k. slice_index bytes k) w → ((n r : ℕ) → w n r < 2 ^ 8)
+    → short_round_keys bytes ≡ key_blocks w 11
+unfolding short_round_keys xtime_by xtime
+short_keys_are bytes w schedule small =
+    let k0 : ℕ = number_at bytes 0 in
+    let k1 : ℕ = next_key k0 1 in
+    let k2 : ℕ = next_key k1 2 in
+    let k3 : ℕ = next_key k2 4 in
+    let k4 : ℕ = next_key k3 8 in
+    let k5 : ℕ = next_key k4 16 in
+    let k6 : ℕ = next_key k5 32 in
+    let k7 : ℕ = next_key k6 64 in
+    let k8 : ℕ = next_key k7 128 in
+    let k9 : ℕ = next_key k8 0x1b in
+    let key : ℕ → ℕ = λ k. slice_index bytes k in
+    let q0 : k0 ≡ block_of 16 (key_state w 0) = short_start bytes w schedule in
+    let q1 = next_key_is key w 0 k0 (omega arith) schedule small q0 in
+    let q2 = next_key_is key w 1 k1 (omega arith) schedule small q1 in
+    let q3 = next_key_is key w 2 k2 (omega arith) schedule small q2 in
+    let q4 = next_key_is key w 3 k3 (omega arith) schedule small q3 in
+    let q5 = next_key_is key w 4 k4 (omega arith) schedule small q4 in
+    let q6 = next_key_is key w 5 k5 (omega arith) schedule small q5 in
+    let q7 = next_key_is key w 6 k6 (omega arith) schedule small q6 in
+    let q8 = next_key_is key w 7 k7 (omega arith) schedule small q7 in
+    let q9 = next_key_is key w 8 k8 (omega arith) schedule small q8 in
+    let q10 = next_key_is key w 9 k9 (omega arith) schedule small q9 in
+    all_short k0 k1 k2 k3 k4 k5 k6 k7 k8 k9 (next_key k9 0x36) w q0 q1 q2 q3 q4 q5 q6 q7 q8 q9 q10
+
+pub cipher_by_short_key : (key : List ℕ) (w : ℕ → ℕ → ℕ) (state : ℕ → ℕ) → IsShortSchedule (λ k. slice_index key k) w
+    → ((n r : ℕ) → w n r < 2 ^ 8) → ((i : ℕ) → state i < 2 ^ 8)
+    → cipher (short_round_keys key) (block_of 16 state) ≡ block_of 16 (encrypted_state 10 (key_state w) state)
+cipher_by_short_key key w state schedule small h =
+    cipher_is (short_round_keys key) (key_state w) state 10 (omega arith) (keys_long (short_round_keys key) w 11 (short_keys_are key w schedule small))
+    (λ j. schedule_bytes w small j)
+    (λ j low. ap (λ (ks : List ℕ). slice_index ks j) (short_keys_are key w schedule small) ∙ block_at w 11 j low) h

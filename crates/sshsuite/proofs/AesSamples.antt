@@ -3,8 +3,8 @@
 use Rattle.std.proofs.Common.{◌≡◌, ℕ, zero, suc, ◌<◌, inl, inr, Bool, true, false, refl, arith, cond, eqb}
 use Rattle.std.proofs.lemmas.Bool.{cases_Bool, eqb-false, eqb-true}
 use Rattle.std.specs.Prelude.{bit_xor}
-use Rattle.sshsuite.specs.Aes.{after_rounds, chosen, cipher, doubled, doubled_by, highest_bits, inverse, last_round, last_word, mapped, mix_columns, next_pair, number_at, others_raised, product, product_to, round, round_keys, shift_rows, sub_bytes, summed_words, turned, turned_words}
-use Rattle.sshsuite.specs.AesBytes.{bit_of, byte_inverse, byte_mapped, byte_product, byte_product_to, byte_turned, mapped_bit, sample_key, tag_additional, tag_key, tag_sealed, xtime, xtime_by}
+use Rattle.sshsuite.specs.Aes.{after_rounds, chosen, cipher, doubled, doubled_by, highest_bits, inverse, last_round, last_word, mapped, mix_columns, next_key, next_pair, number_at, others_raised, product, product_to, round, round_keys, shift_rows, short_round_keys, sub_bytes, summed_words, turned, turned_words}
+use Rattle.sshsuite.specs.AesBytes.{bit_of, byte_inverse, byte_mapped, byte_product, byte_product_to, byte_turned, mapped_bit, sample_key, short_sample_key, tag_additional, tag_key, tag_sealed, xtime, xtime_by}
 use Rattle.sshsuite.specs.Ghash.{ghash, hash_to, hashed, padded_block, shifted, shifted_by, times, times_to}
 use Rattle.sshsuite.specs.Sealing.{filled_up}
 
@@ -67,6 +67,10 @@ mapped_by_bits b i h low =
 pub cipher_sample : cipher (round_keys sample_key) 0x00112233445566778899aabbccddeeff ≡ 0x8ea2b7ca516745bfeafc49904b496089
 unfolding cipher round_keys number_at next_pair last_word summed_words after_rounds round last_round sub_bytes shift_rows mix_columns turned_words mapped inverse turned product product_to doubled_by doubled chosen highest_bits others_raised
 cipher_sample = refl
+
+pub short_sample : cipher (short_round_keys short_sample_key) 0x00112233445566778899aabbccddeeff ≡ 0x69c4e0d86a7b0430d8cdb78070b4c55a
+unfolding cipher short_round_keys number_at next_key last_word summed_words after_rounds round last_round sub_bytes shift_rows mix_columns turned_words mapped inverse turned product product_to doubled_by doubled chosen highest_bits others_raised
+short_sample = refl
 
 pub tag_sample : bit_xor (cipher (round_keys tag_key) 0xcafebabefacedbaddecaf88800000001) (ghash (cipher (round_keys tag_key) 0) tag_additional tag_sealed)
     ≡ 0x76fc6ece0f4e1768cddf8853bb2d551b

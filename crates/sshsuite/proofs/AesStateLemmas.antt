@@ -1,6 +1,6 @@
 -- Rounds over a block are the standard's over its bytes.
 
-use Rattle.std.proofs.Common.{◌≡◌, ℕ, zero, suc, ◌+◌, ◌-◌, ◌*◌, ◌/◌, ◌%◌, ◌^◌, ◌<◌, inl, inr, Bool, true, false, List, refl, sym, ap, ◌∙◌, arith, cond, eqb, ltb}
+use Rattle.std.proofs.Common.{◌≡◌, ℕ, zero, suc, ◌+◌, ◌-◌, ◌*◌, ◌/◌, ◌%◌, ◌^◌, ◌<◌, ◌≤◌, inl, inr, Bool, true, false, List, length, refl, sym, ap, ◌∙◌, arith, cond, eqb, ltb}
 use Rattle.std.proofs.lemmas.Bool.{cases_Bool, eqb-false, eqb-true, le-ltb, lt-ltb}
 use Rattle.std.proofs.lemmas.Nat.{and_le_l, and_mask, or_block, or_lt, xor_block, xor_comm, xor_mod, xor_shr}
 use Rattle.std.specs.Int.{w128, rotate_left}
@@ -410,10 +410,10 @@ states_bytes keys f (suc n) k h =
     (mixed_bytes (shifted_row (substituted s)) (shifted_bytes (substituted s) (substituted_bytes s before))) (k (suc n))
 
 states_are : (keys : List ℕ) (by : ℕ → ℕ → ℕ) (f : ℕ → ℕ) (n : ℕ) → ((j : ℕ) → AreBytes (by j))
-    → ((j : ℕ) → j < 15 → slice_index keys j ≡ block_of 16 (by j)) → AreBytes f → n < 14
+    → ((j : ℕ) → j < length keys → slice_index keys j ≡ block_of 16 (by j)) → AreBytes f → n < length keys
     → after_rounds keys (block_of 16 f) n ≡ block_of 16 (state_after by f n)
 unfolding after_rounds state_after round
-states_are keys by f zero k are h low = by_key (block_of 16 f) (slice_index keys 0) f (by 0) h (k 0) refl (are 0 (omega arith))
+states_are keys by f zero k are h low = by_key (block_of 16 f) (slice_index keys 0) f (by 0) h (k 0) refl (are 0 low)
 states_are keys by f (suc n) k are h low =
     let s : ℕ → ℕ = state_after by f n in
     let before = states_are keys by f n k are h (omega arith) in
@@ -422,18 +422,36 @@ states_are keys by f (suc n) k are h low =
     let hr : AreBytes (shifted_row (substituted s)) = shifted_bytes (substituted s) (substituted_bytes s hs) in
     by_key (mix_columns (shift_rows (sub_bytes (after_rounds keys (block_of 16 f) n)))) (slice_index keys (suc n))
     (mixed_column (shifted_row (substituted s))) (by (suc n)) (mixed_bytes (shifted_row (substituted s)) hr) (k (suc n))
-    (ap mix_columns shifted ∙ mix_columns_is (shifted_row (substituted s)) hr) (are (suc n) (omega arith))
+    (ap mix_columns shifted ∙ mix_columns_is (shifted_row (substituted s)) hr) (are (suc n) low)
 
-pub cipher_is : (keys : List ℕ) (by : ℕ → ℕ → ℕ) (f : ℕ → ℕ) → ((j i : ℕ) → by j i < 2 ^ 8)
-    → ((j : ℕ) → j < 15 → slice_index keys j ≡ block_of 16 (by j)) → ((i : ℕ) → f i < 2 ^ 8)
-    → cipher keys (block_of 16 f) ≡ block_of 16 (encrypted_state by f)
-unfolding cipher last_round encrypted_state
-cipher_is keys by f k are h =
-    let s : ℕ → ℕ = state_after by f 13 in
-    let hs : AreBytes s = states_bytes by f 13 k h in
-    by_key (shift_rows (sub_bytes (after_rounds keys (block_of 16 f) 13))) (slice_index keys 14) (shifted_row (substituted s)) (by 14)
-    (shifted_bytes (substituted s) (substituted_bytes s hs)) (k 14)
-    (shifted_is (after_rounds keys (block_of 16 f) 13) s hs (states_are keys by f 13 k are h (omega arith))) (are 14 (omega arith))
+-- a block encrypted, with as many rounds but the last as there are keys but two
+abbrev pub last_state : (ℕ → ℕ → ℕ) → (ℕ → ℕ) → ℕ → ℕ → ℕ
+last_state by f count = with_key (shifted_row (substituted (state_after by f (count - 2)))) (by (count - 1))
+
+pub cipher_by_state : (keys : List ℕ) (by : ℕ → ℕ → ℕ) (f : ℕ → ℕ) → 2 ≤ length keys → ((j i : ℕ) → by j i < 2 ^ 8)
+    → ((j : ℕ) → j < length keys → slice_index keys j ≡ block_of 16 (by j)) → ((i : ℕ) → f i < 2 ^ 8)
+    → cipher keys (block_of 16 f) ≡ block_of 16 (last_state by f (length keys))
+unfolding cipher last_round
+cipher_by_state keys by f some k are h =
+    let n : ℕ = length keys - 2 in
+    let last : ℕ = length keys - 1 in
+    let s : ℕ → ℕ = state_after by f n in
+    let hs : AreBytes s = states_bytes by f n k h in
+    by_key (shift_rows (sub_bytes (after_rounds keys (block_of 16 f) n))) (slice_index keys last) (shifted_row (substituted s)) (by last)
+    (shifted_bytes (substituted s) (substituted_bytes s hs)) (k last)
+    (shifted_is (after_rounds keys (block_of 16 f) n) s hs (states_are keys by f n k are h (omega (arith, some)))) (are last (omega (arith, some)))
+
+pub cipher_is : (keys : List ℕ) (by : ℕ → ℕ → ℕ) (f : ℕ → ℕ) (rounds : ℕ) → 1 ≤ rounds → length keys ≡ rounds + 1 → ((j i : ℕ) → by j i < 2 ^ 8)
+    → ((j : ℕ) → j < rounds + 1 → slice_index keys j ≡ block_of 16 (by j)) → ((i : ℕ) → f i < 2 ^ 8)
+    → cipher keys (block_of 16 f) ≡ block_of 16 (encrypted_state rounds by f)
+unfolding encrypted_state
+cipher_is keys by f rounds some long k are h =
+    let before : rounds + 1 - 2 ≡ rounds - 1 = omega arith in
+    let last : rounds + 1 - 1 ≡ rounds = omega arith in
+    cipher_by_state keys by f (omega (arith, some, long)) k (λ j low. are j (omega (arith, low, long))) h
+    ∙ ap (λ (n : ℕ). block_of 16 (last_state by f n)) long
+    ∙ ap (λ (n : ℕ). block_of 16 (with_key (shifted_row (substituted (state_after by f n))) (by (rounds + 1 - 1)))) before
+    ∙ ap (λ (n : ℕ). block_of 16 (with_key (shifted_row (substituted (state_after by f (rounds - 1)))) (by n))) last
 
 -- 16 bytes of a list
 pub number_is : (bytes : List ℕ) (i : ℕ) → number_at bytes i ≡ block_of 16 (λ k. slice_index bytes (i + k))

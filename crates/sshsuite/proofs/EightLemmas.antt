@@ -1,15 +1,15 @@
 -- Eight blocks by their planes are the eight blocks.
 
-use Rattle.std.proofs.Common.{◌≡◌, ℕ, zero, suc, ◌+◌, ◌*◌, ◌/◌, ◌%◌, ◌^◌, ◌<◌, List, [], ◌∷◌, refl, sym, ap, ap₂, ◌∙◌, arith}
+use Rattle.std.proofs.Common.{◌≡◌, ℕ, zero, suc, ◌+◌, ◌-◌, ◌*◌, ◌/◌, ◌%◌, ◌^◌, ◌<◌, ◌≤◌, List, [], ◌∷◌, length, refl, sym, ap, ap₂, ◌∙◌, arith}
 use Rattle.std.proofs.lemmas.Nat.{xor_mod, xor_shr}
 use Rattle.std.specs.Int.Bits.{xor_assoc, xor_zero_l, xor_zero_r}
 use Rattle.std.specs.Prelude.{bit_xor, slice_index}
 use Rattle.sshsuite.specs.Aes.{cipher, shift_rows, turned_words}
-use Rattle.sshsuite.specs.AesBytes.{block_of, encrypted_state, mixed_column, s_box, shifted_row, state_after, with_key, xtime}
+use Rattle.sshsuite.specs.AesBytes.{block_of, mixed_column, s_box, shifted_row, state_after, with_key, xtime}
 use Rattle.sshsuite.specs.SBox.{circuit}
 use Rattle.sshsuite.specs.SlicedAes.{eight_ciphers, exchanged, gathered, images, joined, key_planes, keyed, mixed_plane, mixed_planes, planes_after, shifted_planes, spread, turned_planes}
 use Rattle.sshsuite.proofs.AesLemmas.{AreBytes, same_block, times_255, whole, xor_byte}
-use Rattle.sshsuite.proofs.AesStateLemmas.{cipher_is, keyed_bytes, mixed_is, next, shift_rows_is, shifted_bytes, states_bytes, substituted, substituted_bytes, turned_words_is}
+use Rattle.sshsuite.proofs.AesStateLemmas.{cipher_by_state, keyed_bytes, mixed_is, next, shift_rows_is, shifted_bytes, states_bytes, substituted, substituted_bytes, turned_words_is}
 use Rattle.sshsuite.proofs.CircuitLemmas.{bits_at, block, block_xor, by_bits, by_bytes, summed}
 use Rattle.sshsuite.proofs.SlicedLemmas.{ap_block, byte_of, bytes_of, joined_are, of_bytes, plane_is, whole_block}
 use Rattle.sshsuite.proofs.SlicedSamples.{byte_joined, byte_planes, image_at, own_bits, xtime_at}
@@ -513,11 +513,11 @@ unfolding with_key
 key_added s f key h e = ap (λ (x : ℕ). keyed (sliced s) (key_planes x)) e ∙ (ap (keyed (sliced s)) (key_is f h) ∙ keyed_are s (λ j. f))
 
 rounds_are : (keys : List ℕ) (by : ℕ → ℕ → ℕ) (s : ℕ → ℕ → ℕ) (n : ℕ) → ((j : ℕ) → AreBytes (by j))
-    → ((j : ℕ) → j < 15 → slice_index keys j ≡ block_of 16 (by j)) → AllBytes s → n < 14
+    → ((j : ℕ) → j < length keys → slice_index keys j ≡ block_of 16 (by j)) → AllBytes s → n < length keys
     → planes_after keys (block_of 16 (s 0) ∷ block_of 16 (s 1) ∷ block_of 16 (s 2) ∷ block_of 16 (s 3) ∷ block_of 16 (s 4) ∷ block_of 16 (s 5) ∷ block_of 16 (s 6) ∷ block_of 16 (s 7) ∷ []) n ≡ sliced (λ j. state_after by (s j) n)
 unfolding planes_after state_after
 rounds_are keys by s zero k are h low =
-    ap (λ (p : List ℕ). keyed p (key_planes (slice_index keys 0))) (exchanged_is s h) ∙ key_added s (by 0) (slice_index keys 0) (k 0) (are 0 (omega arith))
+    ap (λ (p : List ℕ). keyed p (key_planes (slice_index keys 0))) (exchanged_is s h) ∙ key_added s (by 0) (slice_index keys 0) (k 0) (are 0 low)
 rounds_are keys by s (suc n) k are h low =
     let t : ℕ → ℕ → ℕ = λ j. state_after by (s j) n in
     let ht : AllBytes t = λ j. states_bytes by (s j) n k (h j) in
@@ -526,32 +526,34 @@ rounds_are keys by s (suc n) k are h low =
     ∙ (ap (λ (p : List ℕ). keyed (mixed_planes (shifted_planes p)) (key_planes (slice_index keys (suc n)))) (images_are t ht)
     ∙ (ap (λ (p : List ℕ). keyed (mixed_planes p) (key_planes (slice_index keys (suc n)))) (shifted_are (λ j. substituted (t j)))
     ∙ (ap (λ (p : List ℕ). keyed p (key_planes (slice_index keys (suc n)))) (mixed_are (λ j. shifted_row (substituted (t j))) hr)
-    ∙ key_added (λ j. mixed_column (shifted_row (substituted (t j)))) (by (suc n)) (slice_index keys (suc n)) (k (suc n)) (are (suc n) (omega arith)))))
+    ∙ key_added (λ j. mixed_column (shifted_row (substituted (t j)))) (by (suc n)) (slice_index keys (suc n)) (k (suc n)) (are (suc n) low))))
 
-eight_are : (keys : List ℕ) (by : ℕ → ℕ → ℕ) (s : ℕ → ℕ → ℕ) → ((j : ℕ) → AreBytes (by j))
-    → ((j : ℕ) → j < 15 → slice_index keys j ≡ block_of 16 (by j)) → AllBytes s
+eight_are : (keys : List ℕ) (by : ℕ → ℕ → ℕ) (s : ℕ → ℕ → ℕ) → 2 ≤ length keys → ((j : ℕ) → AreBytes (by j))
+    → ((j : ℕ) → j < length keys → slice_index keys j ≡ block_of 16 (by j)) → AllBytes s
     → eight_ciphers keys (block_of 16 (s 0) ∷ block_of 16 (s 1) ∷ block_of 16 (s 2) ∷ block_of 16 (s 3) ∷ block_of 16 (s 4) ∷ block_of 16 (s 5) ∷ block_of 16 (s 6) ∷ block_of 16 (s 7) ∷ []) ≡ cipher keys (block_of 16 (s 0)) ∷ cipher keys (block_of 16 (s 1)) ∷ cipher keys (block_of 16 (s 2)) ∷ cipher keys (block_of 16 (s 3)) ∷ cipher keys (block_of 16 (s 4)) ∷ cipher keys (block_of 16 (s 5)) ∷ cipher keys (block_of 16 (s 6)) ∷ cipher keys (block_of 16 (s 7)) ∷ []
-unfolding eight_ciphers encrypted_state
-eight_are keys by s k are h =
-    let t : ℕ → ℕ → ℕ = λ j. state_after by (s j) 13 in
-    let ht : AllBytes t = λ j. states_bytes by (s j) 13 k (h j) in
+unfolding eight_ciphers
+eight_are keys by s some k are h =
+    let n : ℕ = length keys - 2 in
+    let last : ℕ = length keys - 1 in
+    let t : ℕ → ℕ → ℕ = λ j. state_after by (s j) n in
+    let ht : AllBytes t = λ j. states_bytes by (s j) n k (h j) in
     let hr : AllBytes (λ j. shifted_row (substituted (t j))) = λ j. shifted_bytes (substituted (t j)) (substituted_bytes (t j) (ht j)) in
-    let he : AllBytes (λ j. with_key (shifted_row (substituted (t j))) (by 14)) = λ j. keyed_bytes (shifted_row (substituted (t j))) (by 14) (hr j) (k 14) in
-    ap (λ (p : List ℕ). exchanged (keyed (shifted_planes (images p)) (key_planes (slice_index keys 14)))) (rounds_are keys by s 13 k are h (omega arith))
-    ∙ (ap (λ (p : List ℕ). exchanged (keyed (shifted_planes p) (key_planes (slice_index keys 14)))) (images_are t ht)
-    ∙ (ap (λ (p : List ℕ). exchanged (keyed p (key_planes (slice_index keys 14)))) (shifted_are (λ j. substituted (t j)))
-    ∙ (ap exchanged (key_added (λ j. shifted_row (substituted (t j))) (by 14) (slice_index keys 14) (k 14) (are 14 (omega arith)))
-    ∙ (exchanged_back (λ j. with_key (shifted_row (substituted (t j))) (by 14)) he
-    ∙ ap₂ ◌∷◌ (sym (cipher_is keys by (s 0) k are (h 0))) (ap₂ ◌∷◌ (sym (cipher_is keys by (s 1) k are (h 1))) (ap₂ ◌∷◌ (sym (cipher_is keys by (s 2) k are (h 2))) (ap₂ ◌∷◌ (sym (cipher_is keys by (s 3) k are (h 3))) (ap₂ ◌∷◌ (sym (cipher_is keys by (s 4) k are (h 4))) (ap₂ ◌∷◌ (sym (cipher_is keys by (s 5) k are (h 5))) (ap₂ ◌∷◌ (sym (cipher_is keys by (s 6) k are (h 6))) (ap₂ ◌∷◌ (sym (cipher_is keys by (s 7) k are (h 7))) (refl))))))))))))
+    let he : AllBytes (λ j. with_key (shifted_row (substituted (t j))) (by last)) = λ j. keyed_bytes (shifted_row (substituted (t j))) (by last) (hr j) (k last) in
+    ap (λ (p : List ℕ). exchanged (keyed (shifted_planes (images p)) (key_planes (slice_index keys last)))) (rounds_are keys by s n k are h (omega (arith, some)))
+    ∙ (ap (λ (p : List ℕ). exchanged (keyed (shifted_planes p) (key_planes (slice_index keys last)))) (images_are t ht)
+    ∙ (ap (λ (p : List ℕ). exchanged (keyed p (key_planes (slice_index keys last)))) (shifted_are (λ j. substituted (t j)))
+    ∙ (ap exchanged (key_added (λ j. shifted_row (substituted (t j))) (by last) (slice_index keys last) (k last) (are last (omega (arith, some))))
+    ∙ (exchanged_back (λ j. with_key (shifted_row (substituted (t j))) (by last)) he
+    ∙ ap₂ ◌∷◌ (sym (cipher_by_state keys by (s 0) some k are (h 0))) (ap₂ ◌∷◌ (sym (cipher_by_state keys by (s 1) some k are (h 1))) (ap₂ ◌∷◌ (sym (cipher_by_state keys by (s 2) some k are (h 2))) (ap₂ ◌∷◌ (sym (cipher_by_state keys by (s 3) some k are (h 3))) (ap₂ ◌∷◌ (sym (cipher_by_state keys by (s 4) some k are (h 4))) (ap₂ ◌∷◌ (sym (cipher_by_state keys by (s 5) some k are (h 5))) (ap₂ ◌∷◌ (sym (cipher_by_state keys by (s 6) some k are (h 6))) (ap₂ ◌∷◌ (sym (cipher_by_state keys by (s 7) some k are (h 7))) (refl))))))))))))
 
 -- a list of eight
 nth : List ℕ → ℕ → ℕ
 nth p j = slice_index p j
 
-pub eight_is : (keys : List ℕ) (b0 b1 b2 b3 b4 b5 b6 b7 : ℕ) → ((j : ℕ) → slice_index keys j < 2 ^ 128) → b0 < 2 ^ 128 → b1 < 2 ^ 128 → b2 < 2 ^ 128 → b3 < 2 ^ 128 → b4 < 2 ^ 128 → b5 < 2 ^ 128 → b6 < 2 ^ 128 → b7 < 2 ^ 128
+pub eight_is : (keys : List ℕ) (b0 b1 b2 b3 b4 b5 b6 b7 : ℕ) → 2 ≤ length keys → ((j : ℕ) → slice_index keys j < 2 ^ 128) → b0 < 2 ^ 128 → b1 < 2 ^ 128 → b2 < 2 ^ 128 → b3 < 2 ^ 128 → b4 < 2 ^ 128 → b5 < 2 ^ 128 → b6 < 2 ^ 128 → b7 < 2 ^ 128
     → eight_ciphers keys (b0 ∷ b1 ∷ b2 ∷ b3 ∷ b4 ∷ b5 ∷ b6 ∷ b7 ∷ []) ≡ cipher keys b0 ∷ cipher keys b1 ∷ cipher keys b2 ∷ cipher keys b3 ∷ cipher keys b4 ∷ cipher keys b5 ∷ cipher keys b6 ∷ cipher keys b7 ∷ []
 unfolding nth
-eight_is keys b0 b1 b2 b3 b4 b5 b6 b7 k h0 h1 h2 h3 h4 h5 h6 h7 =
+eight_is keys b0 b1 b2 b3 b4 b5 b6 b7 some k h0 h1 h2 h3 h4 h5 h6 h7 =
     let p : List ℕ = b0 ∷ b1 ∷ b2 ∷ b3 ∷ b4 ∷ b5 ∷ b6 ∷ b7 ∷ [] in
     let s : ℕ → ℕ → ℕ = λ j. byte_of (nth p j) in
     let e0 : b0 ≡ block_of 16 (byte_of b0) = whole_block b0 h0 in
@@ -563,5 +565,5 @@ eight_is keys b0 b1 b2 b3 b4 b5 b6 b7 k h0 h1 h2 h3 h4 h5 h6 h7 =
     let e6 : b6 ≡ block_of 16 (byte_of b6) = whole_block b6 h6 in
     let e7 : b7 ≡ block_of 16 (byte_of b7) = whole_block b7 h7 in
     ap (eight_ciphers keys) (ap₂ ◌∷◌ (e0) (ap₂ ◌∷◌ (e1) (ap₂ ◌∷◌ (e2) (ap₂ ◌∷◌ (e3) (ap₂ ◌∷◌ (e4) (ap₂ ◌∷◌ (e5) (ap₂ ◌∷◌ (e6) (ap₂ ◌∷◌ (e7) (refl)))))))))
-    ∙ (eight_are keys (λ j. byte_of (slice_index keys j)) s (λ j. bytes_of (slice_index keys j)) (λ j _. whole_block (slice_index keys j) (k j)) (λ j. bytes_of (nth p j))
+    ∙ (eight_are keys (λ j. byte_of (slice_index keys j)) s some (λ j. bytes_of (slice_index keys j)) (λ j _. whole_block (slice_index keys j) (k j)) (λ j. bytes_of (nth p j))
     ∙ ap₂ ◌∷◌ (ap (cipher keys) (sym e0)) (ap₂ ◌∷◌ (ap (cipher keys) (sym e1)) (ap₂ ◌∷◌ (ap (cipher keys) (sym e2)) (ap₂ ◌∷◌ (ap (cipher keys) (sym e3)) (ap₂ ◌∷◌ (ap (cipher keys) (sym e4)) (ap₂ ◌∷◌ (ap (cipher keys) (sym e5)) (ap₂ ◌∷◌ (ap (cipher keys) (sym e6)) (ap₂ ◌∷◌ (ap (cipher keys) (sym e7)) (refl)))))))))

@@ -28,6 +28,7 @@ pub mod SlicedSamples
 pub mod SlicedLemmas
 pub mod EightLemmas
 pub mod StreamLemmas
+pub mod CtrLemmas
 pub mod LongNumberLemmas
 pub mod MontgomeryLemmas
 pub mod PowerLemmas

@@ -13,7 +13,10 @@ use Rattle.sshpacket.specs.Suite.{ResponseData, SuiteData}
 use Rattle.sshsuite.specs.Curve25519.{base_point, x25519}
 use Rattle.sshsuite.specs.Expansion.{expanded}
 use Rattle.sshsuite.specs.declared.expansion.Purpose.TheVariants.{Curve25519, Group14}
-use Rattle.sshsuite.specs.Gcm.{seal as gcm_seal, unseal as gcm_unseal}
+use Rattle.sshsuite.specs.CipherNames.{is_ctr, is_gcm, is_short_key}
+use Rattle.sshsuite.specs.Ctr.{covers_sealed, tag_length}
+use Rattle.sshsuite.specs.Ctr as ctr
+use Rattle.sshsuite.specs.Gcm as gcm
 use Rattle.sshsuite.specs.Group14.{group14_share, group14_shared}
 use Rattle.sshsuite.specs.Hybrid.{hybrid_respond, hybrid_share, hybrid_shared}
 use Rattle.sshsuite.specs.MpintBody.{mpint_body}
@@ -40,13 +43,15 @@ ed25519 = codes "ssh-ed25519"
 unfoldable pub is_ed25519 : List ℕ → Bool
 is_ed25519 alg = bytes_eq alg ed25519
 
--- the name of aes256-gcm
-unfoldable pub is_aes256_gcm : List ℕ → Bool
-is_aes256_gcm cipher = bytes_eq cipher (codes "aes256-gcm@openssh.com")
+-- how many bytes a key of AES has
+abbrev pub aes_length : List ℕ → ℕ
+aes_length cipher = if is_short_key cipher then 16 else 32
 
-abbrev pub key_lens : Bool → KeyLens
-key_lens true = record { iv = 12; enc = 32; mac = 0 }
-key_lens false = record { iv = 0; enc = 64; mac = 0 }
+abbrev pub key_lens : List ℕ → List ℕ → KeyLens
+key_lens cipher mac =
+    if is_ctr cipher then record { iv = 16; enc = aes_length cipher; mac = tag_length mac }
+    else if is_gcm cipher then record { iv = 12; enc = aes_length cipher; mac = 0 }
+    else record { iv = 0; enc = 64; mac = 0 }
 
 -- what is drawn of 32 random bytes by curve25519-sha256, and by diffie-hellman-group14-sha256
 abbrev pub scalar_of : List ℕ → List ℕ
@@ -102,13 +107,20 @@ abbrev pub deployed : SuiteData
 deployed = record {
   need = λ kex. if is_curve25519 kex || is_group14 kex || is_hybrid kex then Signature else Encryption;
   can = λ alg. record { signature = is_ed25519 alg || is_rsa alg; encryption = false };
-  block = λ cipher. if is_aes256_gcm cipher then 16 else 8;
-  tag_len = λ cipher mac. 16;
-  counts_length = λ cipher mac. false;
-  key_lens = λ cipher mac. key_lens (is_aes256_gcm cipher);
-  seal = λ keys seq packet. if is_aes256_gcm keys.cipher then gcm_seal keys.iv keys.enc seq packet else seal keys.enc seq packet;
-  head = λ keys seq first. if is_aes256_gcm keys.cipher then number first else head keys.enc seq first;
-  unseal = λ keys seq sealed. if is_aes256_gcm keys.cipher then gcm_unseal keys.iv keys.enc seq sealed else unseal keys.enc seq sealed;
+  block = λ cipher. if is_ctr cipher || is_gcm cipher then 16 else 8;
+  tag_len = λ cipher mac. if is_ctr cipher then tag_length mac else 16;
+  counts_length = λ cipher mac. if is_ctr cipher then (if covers_sealed mac then false else true) else false;
+  key_lens = λ cipher mac. key_lens cipher mac;
+  seal = λ keys seq packet.
+      if is_ctr keys.cipher then ctr.seal keys seq packet
+      else if is_gcm keys.cipher then gcm.seal (is_short_key keys.cipher) keys.iv keys.enc packet
+      else seal keys.enc seq packet;
+  head = λ keys seq first. if is_ctr keys.cipher then ctr.head keys first else if is_gcm keys.cipher then number first else head keys.enc seq first;
+  unseal = λ keys seq sealed.
+      if is_ctr keys.cipher then ctr.unseal keys seq sealed
+      else if is_gcm keys.cipher then gcm.unseal (is_short_key keys.cipher) keys.iv keys.enc sealed
+      else unseal keys.enc seq sealed;
+  next_iv = λ keys len. if is_ctr keys.cipher then ctr.next_iv keys len else if is_gcm keys.cipher then gcm.next_iv keys.iv else keys.iv;
   padding = λ seed seq len. stream (sha256 seed) seq 0 len;
   share_form = λ kex. if is_group14 kex then Mpint else if is_hybrid kex then Hybrid else OctetString;
   share = λ kex random. share kex random;

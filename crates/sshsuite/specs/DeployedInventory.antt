@@ -7,7 +7,13 @@ use Rattle.sshpacket.specs.Inventory.{InventoryData}
 
 -- its ciphers
 abbrev pub deployed_ciphers : List (List ℕ)
-deployed_ciphers = codes "chacha20-poly1305@openssh.com" ∷ codes "aes256-gcm@openssh.com" ∷ []
+deployed_ciphers =
+    codes "chacha20-poly1305@openssh.com" ∷ codes "aes256-gcm@openssh.com" ∷ codes "aes128-gcm@openssh.com" ∷ codes "aes256-ctr" ∷ codes "aes128-ctr" ∷ []
+
+-- its MACs, of which the last two ciphers use one
+abbrev pub deployed_macs : List (List ℕ)
+deployed_macs =
+    codes "hmac-sha2-256-etm@openssh.com" ∷ codes "hmac-sha2-512-etm@openssh.com" ∷ codes "hmac-sha2-256" ∷ codes "hmac-sha2-512" ∷ []
 
 -- its key exchange methods
 abbrev pub deployed_methods : List (List ℕ)
@@ -21,5 +27,6 @@ is_one names name = list_any (λ own. bytes_eq name own) names
 abbrev pub deployed_inventory : InventoryData
 deployed_inventory = record {
   has_cipher = λ cipher. is_one deployed_ciphers cipher;
+  has_mac = λ mac. is_one deployed_macs mac;
   has_kex = λ kex. is_one deployed_methods kex;
 }

@@ -1,35 +1,41 @@
 -- The suite has the laws of one end.
 
-use Rattle.std.proofs.Common.{◌≡◌, ℕ, ◌+◌, ◌≤◌, inl, inr, Bool, true, false, List, length, take, refl, sym, ap, ap₂, ◌∙◌, arith, cond, eqb}
+use Rattle.std.proofs.Common.{◌≡◌, ℕ, ◌+◌, ◌≤◌, inl, inr, Bool, true, false, List, length, take, refl, sym, ap, ap₂, ◌∙◌, arith, cond, eqb, eqb-true}
 use Rattle.std.proofs.lemmas.Bool.{cases_Bool, cond_both}
-use Rattle.std.proofs.lemmas.List.{length-append, length-set}
-use Rattle.std.specs.Prelude.{◌&&◌, codes, Option, None, Some, option_map, replicate}
+use Rattle.std.proofs.lemmas.List.{length-append, length-set, length-take-le}
+use Rattle.std.specs.Int.{to_be_bytes, w128}
+use Rattle.std.specs.Prelude.{◌&&◌, ◌||◌, codes, Option, None, Some, option_map, replicate}
 use Rattle.std.proofs.lemmas.Slice.Eq.{bytes_eq-Decides}
 use Rattle.std.specs.Str.{bytes_eq}
 use Rattle.sha2.proofs.Facts256.{length-sha256}
 use Rattle.sha2.specs.Sha256.{sha256}
 use Rattle.sshwire.specs.Types.{IsBytes, string}
+use Rattle.sshpacket.specs.declared.suite.KeyLens.{KeyLens}
 use Rattle.sshpacket.specs.KeysData.{KeysData}
 use Rattle.sshpacket.specs.Packet.{number}
 use Rattle.sshpacket.specs.Suite.{FitsShare, FitsShared, IsLawful, IsNumberBody, Keeps, ResponseData}
 use Rattle.sshwire.specs.declared.share_form.ShareForm.{ShareForm}
 use Rattle.sshwire.specs.declared.share_form.ShareForm.TheVariants.{Hybrid, Mpint, OctetString}
-use Rattle.sshpacket.specs.declared.limits.TheConstants.{BLOB_LIMIT, BLOCK_LIMIT, KEY_LIMIT, SHARE_LIMIT}
+use Rattle.sshpacket.specs.declared.limits.TheConstants.{BLOB_LIMIT, BLOCK_LIMIT, KEY_LIMIT, SHARE_LIMIT, TAG_LIMIT}
 use Rattle.sshpacket.specs.KeysElsewhere.{public_part}
 use Rattle.sshpacket.specs.KeysElsewhereLaws.{public_part_short}
 use Rattle.sshsuite.specs.Curve25519.{base_point, x25519}
 use Rattle.sshsuite.specs.CurveBytes.{bytes_x25519, length_encode, length_x25519}
 use Rattle.sshsuite.specs.Edwards25519.{with_sign, encode_point}
 use Rattle.sshsuite.specs.declared.edwards25519.Point.{Point}
-use Rattle.sshsuite.specs.Deployed.{deployed, ed25519, exponent_of, is_aes256_gcm, is_curve25519, is_group14, is_held, is_hybrid, key_lens, respond, response_with, scalar_of, share, shared, shared_secret, wrapped}
+use Rattle.sshsuite.specs.Deployed.{deployed, ed25519, exponent_of, is_curve25519, is_group14, is_held, is_hybrid, key_lens, respond, response_with, scalar_of, share, shared, shared_secret, wrapped}
 use Rattle.sshsuite.specs.Group14.{group14_share, group14_shared}
 use Rattle.sshsuite.specs.Group14Laws.{body_bytes, body_number, group14_share_bytes, group14_share_fits, group14_shared_given}
 use Rattle.sshsuite.specs.Hybrid.{hybrid_respond, hybrid_share, hybrid_shared}
 use Rattle.sshsuite.specs.HybridLaws as hybrid
 use Rattle.sshsuite.specs.MpintBody.{mpint_body}
 use Rattle.sshsuite.specs.Scalar.{bytes_of_halves, encode_scalar}
-use Rattle.sshsuite.specs.Gcm.{seal as gcm_seal, unseal as gcm_unseal}
-use Rattle.sshsuite.specs.GcmLaws as gcm
+use Rattle.sshsuite.specs.CipherNames.{is_ctr, is_gcm, is_short_key}
+use Rattle.sshsuite.specs.Ctr.{is_by_sha512, tag_length}
+use Rattle.sshsuite.specs.Ctr as ctr
+use Rattle.sshsuite.specs.CtrLaws as ctr_laws
+use Rattle.sshsuite.specs.Gcm as gcm
+use Rattle.sshsuite.specs.GcmLaws as gcm_laws
 use Rattle.sshsuite.specs.Sealing.{head, seal, unseal}
 use Rattle.sshsuite.specs.SealingLaws.{bytes_seal, guard_none, head_of_seal, seal_length, some_of_packet, unseal_of_seal, unsealed}
 use Rattle.sshsuite.specs.Ed25519.{public_key, signature}
@@ -156,36 +162,88 @@ unfolding wrapped
 length_wrapped bytes = let both = length-append (string ed25519) (string bytes) in omega (arith, both)
 
 -- Each cipher.
-both_head : (b : Bool) (keys : KeysData) (seq : ℕ) (clear : List ℕ) → 4 ≤ length clear →
-    (let sealed = cond b (gcm_seal keys.iv keys.enc seq clear) (seal keys.enc seq clear) in
-    cond b (number (take 4 sealed)) (head keys.enc seq (take 4 sealed)) ≡ number clear)
-both_head true keys seq clear h = gcm.head_of_seal keys.iv keys.enc seq clear h
-both_head false keys seq clear h = head_of_seal keys.enc seq clear h
+abbrev sealed_with : Bool → Bool → KeysData → ℕ → List ℕ → List ℕ
+sealed_with c g keys seq clear =
+    cond c (ctr.seal keys seq clear) (cond g (gcm.seal (is_short_key keys.cipher) keys.iv keys.enc clear) (seal keys.enc seq clear))
 
-both_unseal : (b : Bool) (keys : KeysData) (seq : ℕ) (clear : List ℕ) → 4 ≤ length clear →
-    (let sealed = cond b (gcm_seal keys.iv keys.enc seq clear) (seal keys.enc seq clear) in
-    cond b (gcm_unseal keys.iv keys.enc seq sealed) (unseal keys.enc seq sealed) ≡ Some clear)
-both_unseal true keys seq clear h = gcm.unseal_of_seal keys.iv keys.enc seq clear h
-both_unseal false keys seq clear h = unseal_of_seal keys.enc seq clear h
+abbrev head_with : Bool → Bool → KeysData → ℕ → List ℕ → ℕ
+head_with c g keys seq first = cond c (ctr.head keys first) (cond g (number first) (head keys.enc seq first))
 
-both_unsealed : (b : Bool) (keys : KeysData) (seq : ℕ) (sealed clear : List ℕ) → IsBytes sealed
-    → length sealed ≡ 4 + cond b (number (take 4 sealed)) (head keys.enc seq (take 4 sealed)) + 16
-    → cond b (gcm_unseal keys.iv keys.enc seq sealed) (unseal keys.enc seq sealed) ≡ Some clear
-    → Keeps (cond b (number (take 4 sealed)) (head keys.enc seq (take 4 sealed))) clear
-both_unsealed true keys seq sealed clear h long e = gcm.unsealed keys.iv keys.enc seq sealed clear h long e
-both_unsealed false keys seq sealed clear h long e = unsealed keys.enc seq sealed clear h long e
+abbrev unsealed_with : Bool → Bool → KeysData → ℕ → List ℕ → Option (List ℕ)
+unsealed_with c g keys seq sealed =
+    cond c (ctr.unseal keys seq sealed) (cond g (gcm.unseal (is_short_key keys.cipher) keys.iv keys.enc sealed) (unseal keys.enc seq sealed))
 
-iv_short : (b : Bool) → (key_lens b).iv ≤ KEY_LIMIT
-iv_short true = omega arith
-iv_short false = omega arith
+each_length : (c g : Bool) (keys : KeysData) (seq : ℕ) (clear : List ℕ) → 4 ≤ length clear
+    → length (sealed_with c g keys seq clear) ≡ length clear + cond c (tag_length keys.mac) 16
+each_length true g keys seq clear h = ctr_laws.seal_length keys seq clear h
+each_length false true keys seq clear h = gcm_laws.seal_length (is_short_key keys.cipher) keys.iv keys.enc clear h
+each_length false false keys seq clear h = seal_length keys.enc seq clear h
 
-enc_short : (b : Bool) → (key_lens b).enc ≤ KEY_LIMIT
-enc_short true = omega arith
-enc_short false = omega arith
+each_head : (c g : Bool) (keys : KeysData) (seq : ℕ) (clear : List ℕ) → 4 ≤ length clear
+    → head_with c g keys seq (take 4 (sealed_with c g keys seq clear)) ≡ number clear
+each_head true g keys seq clear h = ctr_laws.head_of_seal keys seq clear h
+each_head false true keys seq clear h = gcm_laws.head_of_seal (is_short_key keys.cipher) keys.iv keys.enc clear h
+each_head false false keys seq clear h = head_of_seal keys.enc seq clear h
 
-mac_short : (b : Bool) → (key_lens b).mac ≤ KEY_LIMIT
-mac_short true = omega arith
-mac_short false = omega arith
+each_unseal : (c g : Bool) (keys : KeysData) (seq : ℕ) (clear : List ℕ) → 4 ≤ length clear
+    → unsealed_with c g keys seq (sealed_with c g keys seq clear) ≡ Some clear
+each_unseal true g keys seq clear h = ctr_laws.unseal_of_seal keys seq clear h
+each_unseal false true keys seq clear h = gcm_laws.unseal_of_seal (is_short_key keys.cipher) keys.iv keys.enc clear h
+each_unseal false false keys seq clear h = unseal_of_seal keys.enc seq clear h
+
+each_unsealed : (c g : Bool) (keys : KeysData) (seq : ℕ) (sealed clear : List ℕ) → IsBytes sealed
+    → length sealed ≡ 4 + head_with c g keys seq (take 4 sealed) + cond c (tag_length keys.mac) 16
+    → unsealed_with c g keys seq sealed ≡ Some clear → Keeps (head_with c g keys seq (take 4 sealed)) clear
+each_unsealed true g keys seq sealed clear h long e = ctr_laws.unsealed keys seq sealed clear h long e
+each_unsealed false true keys seq sealed clear h long e = gcm_laws.unsealed (is_short_key keys.cipher) keys.iv keys.enc sealed clear h long e
+each_unsealed false false keys seq sealed clear h long e = unsealed keys.enc seq sealed clear h long e
+
+each_bytes : (c g : Bool) (keys : KeysData) (seq : ℕ) (clear : List ℕ) → IsBytes clear → IsBytes (sealed_with c g keys seq clear)
+each_bytes true g keys seq clear h = ctr_laws.bytes_seal keys seq clear h
+each_bytes false true keys seq clear h = gcm_laws.bytes_seal (is_short_key keys.cipher) keys.iv keys.enc clear h
+each_bytes false false keys seq clear h = bytes_seal keys.enc seq clear h
+
+abbrev lens_with : Bool → Bool → Bool → Bool → KeyLens
+lens_with c g short wide =
+    cond c (record { iv = 16; enc = cond short 16 32; mac = cond wide 64 32 }) (cond g (record { iv = 12; enc = cond short 16 32; mac = 0 }) (record { iv = 0; enc = 64; mac = 0 }))
+
+abbrev AreShort : KeyLens → Type 0
+AreShort lens = (lens.iv ≤ KEY_LIMIT) × (lens.enc ≤ KEY_LIMIT) × (lens.mac ≤ KEY_LIMIT)
+
+each_short : (c g short wide : Bool) → AreShort (lens_with c g short wide)
+each_short true g true true = (omega arith, omega arith, omega arith)
+each_short true g true false = (omega arith, omega arith, omega arith)
+each_short true g false true = (omega arith, omega arith, omega arith)
+each_short true g false false = (omega arith, omega arith, omega arith)
+each_short false true true wide = (omega arith, omega arith, omega arith)
+each_short false true false wide = (omega arith, omega arith, omega arith)
+each_short false false short wide = (omega arith, omega arith, omega arith)
+
+are_short : (cipher mac : List ℕ) → AreShort (key_lens cipher mac)
+are_short cipher mac = each_short (is_ctr cipher) (is_gcm cipher) (is_short_key cipher) (is_by_sha512 mac)
+
+tag_short : (c wide : Bool) → cond c (cond wide 64 32) 16 ≤ TAG_LIMIT
+tag_short true true = omega arith
+tag_short true false = omega arith
+tag_short false wide = omega arith
+
+-- the vector of the next packet has as many bytes
+wide_length : (b : Bool) (iv : List ℕ) (next : ℕ) → (b ≡ true → length iv ≡ 16) → length (cond b (to_be_bytes w128 next) iv) ≡ length iv
+wide_length true iv next h = sym (h refl)
+wide_length false iv next h = refl
+
+narrow_length : (b : Bool) (iv : List ℕ) (next : ℕ) → (b ≡ true → length iv ≡ 12) → length (cond b (take 12 (to_be_bytes w128 next)) iv) ≡ length iv
+narrow_length true iv next h = sym (h refl)
+narrow_length false iv next h = refl
+
+next_with : (c g : Bool) (keys : KeysData) (len : ℕ) → length (cond c (ctr.next_iv keys len) (cond g (gcm.next_iv keys.iv) keys.iv)) ≡ length keys.iv
+unfolding ctr.next_iv gcm.next_iv
+next_with true g keys len = wide_length (eqb (length keys.iv) 16) keys.iv _ (eqb-true (length keys.iv) 16)
+next_with false true keys len = narrow_length (eqb (length keys.iv) 12) keys.iv _ (eqb-true (length keys.iv) 12)
+next_with false false keys len = refl
+
+pub next_length : (keys : KeysData) (len : ℕ) → length (deployed.next_iv keys len) ≡ length keys.iv
+next_length keys len = next_with (is_ctr keys.cipher) (is_gcm keys.cipher) keys len
 
 -- the names of the methods differ
 not_both : (kex : List ℕ) → is_hybrid kex ≡ true → is_group14 kex ≡ false
@@ -204,21 +262,19 @@ response_given kex random peer r e =
 
 pub deployed_lawful : IsLawful deployed
 deployed_lawful = record {
-  seal_length = λ keys seq payload clear h p. let some = some_of_packet _ _ _ payload clear p.1 in
-      cond_both (is_aes256_gcm keys.cipher) (gcm_seal keys.iv keys.enc seq clear) (seal keys.enc seq clear) (λ (xs : List ℕ). length xs ≡ length clear + 16)
-      (λ _. gcm.seal_length keys.iv keys.enc seq clear some) (λ _. seal_length keys.enc seq clear some);
-  head_of_seal = λ keys seq payload clear h p. both_head (is_aes256_gcm keys.cipher) keys seq clear (some_of_packet _ _ _ payload clear p.1);
-  unseal_of_seal = λ keys seq payload clear h p. both_unseal (is_aes256_gcm keys.cipher) keys seq clear (some_of_packet _ _ _ payload clear p.1);
-  unsealed = λ keys seq sealed clear h bytes long e. both_unsealed (is_aes256_gcm keys.cipher) keys seq sealed clear bytes long e;
+  seal_length = λ keys seq payload clear h p. each_length (is_ctr keys.cipher) (is_gcm keys.cipher) keys seq clear (some_of_packet _ _ _ payload clear p.1);
+  head_of_seal = λ keys seq payload clear h p. each_head (is_ctr keys.cipher) (is_gcm keys.cipher) keys seq clear (some_of_packet _ _ _ payload clear p.1);
+  unseal_of_seal = λ keys seq payload clear h p. each_unseal (is_ctr keys.cipher) (is_gcm keys.cipher) keys seq clear (some_of_packet _ _ _ payload clear p.1);
+  unsealed = λ keys seq sealed clear h bytes long e. each_unsealed (is_ctr keys.cipher) (is_gcm keys.cipher) keys seq sealed clear bytes long e;
   share_fits = λ kex a h. share_fits kex a;
   shared_fits = λ kex a peer body h e. (shared_fits kex a peer body e).0;
   response_fits = λ kex a peer r h e. (response_given kex a peer r e).0;
-  block_low = λ cipher. cond_both (is_aes256_gcm cipher) 16 8 (λ (n : ℕ). 8 ≤ n) (λ _. omega arith) (λ _. omega arith);
-  block_high = λ cipher. cond_both (is_aes256_gcm cipher) 16 8 (λ (n : ℕ). n ≤ BLOCK_LIMIT) (λ _. omega arith) (λ _. omega arith);
-  tag_high = λ cipher mac. omega arith;
-  iv_high = λ cipher mac. iv_short (is_aes256_gcm cipher);
-  enc_high = λ cipher mac. enc_short (is_aes256_gcm cipher);
-  mac_high = λ cipher mac. mac_short (is_aes256_gcm cipher);
+  block_low = λ cipher. cond_both (is_ctr cipher || is_gcm cipher) 16 8 (λ (n : ℕ). 8 ≤ n) (λ _. omega arith) (λ _. omega arith);
+  block_high = λ cipher. cond_both (is_ctr cipher || is_gcm cipher) 16 8 (λ (n : ℕ). n ≤ BLOCK_LIMIT) (λ _. omega arith) (λ _. omega arith);
+  tag_high = λ cipher mac. tag_short (is_ctr cipher) (is_by_sha512 mac);
+  iv_high = λ cipher mac. (are_short cipher mac).0;
+  enc_high = λ cipher mac. (are_short cipher mac).1;
+  mac_high = λ cipher mac. (are_short cipher mac).2;
   padding_length = λ seed seq len. length_stream (sha256 seed) seq 0 len;
   digest_low = λ kex input. omega (arith, length-sha256 input);
   digest_high = λ kex input. omega (arith, length-sha256 input);
@@ -227,9 +283,7 @@ deployed_lawful = record {
       cond_both (is_held alg secret) (wrapped (public_key secret)) (public_part secret) (λ (xs : List ℕ). length xs ≤ BLOB_LIMIT)
       (λ _. omega (arith, long, key)) (λ _. public_part_short secret);
   sign_high = λ alg secret input name. let long = length_wrapped (signature secret input) in let own = length_signature secret input in omega (arith, long, own);
-  seal_bytes = λ keys seq clear h.
-      cond_both (is_aes256_gcm keys.cipher) (gcm_seal keys.iv keys.enc seq clear) (seal keys.enc seq clear) (λ (xs : List ℕ). IsBytes xs)
-      (λ _. gcm.bytes_seal keys.iv keys.enc seq clear h) (λ _. bytes_seal keys.enc seq clear h);
+  seal_bytes = λ keys seq clear h. each_bytes (is_ctr keys.cipher) (is_gcm keys.cipher) keys seq clear h;
   padding_bytes = λ seed seq len. bytes_stream (sha256 seed) seq 0 len;
   share_bytes = λ kex a h. share_bytes kex a;
   shared_bytes = λ kex a peer body h k e. (shared_fits kex a peer body e).1;

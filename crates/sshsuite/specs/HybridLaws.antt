@@ -1,17 +1,17 @@
 -- What the hybrid answers is bytes, of a length that fits.
 
 use Rattle.std.proofs.Common.{◌≡◌, ℕ, zero, suc, ◌/◌, ◌%◌, Bool, true, false, List, [], ◌∷◌, ◌++◌, length, take, ap, arith, cond, eqb}
-use Rattle.std.specs.Int.{to_be_bytes, w32}
 use Rattle.std.specs.Prelude.{◌&&◌, slice_index, replicate, Option, None, Some, option_map}
 use Rattle.std.specs.Str.{bytes_eq}
 use Rattle.sha2.proofs.Facts256.{length-sha256}
-use Rattle.sha2.specs.Sha256.{digest_bytes as sha_bytes, final_hash, initial_hash_256, sha256}
+use Rattle.sha2.specs.Sha256.{sha256}
 use Rattle.sshmlkem.specs.Kem.{encapsulated, is_key}
 use Rattle.sshmlkem.specs.KemBytes.{AreBytes, both_parts, ciphertext_bytes, key_bytes}
 use Rattle.sshwire.specs.ByteLaws.{bytes_append, bytes_cons, bytes_none}
 use Rattle.sshwire.specs.Types.{IsBytes}
 use Rattle.sshpacket.specs.Suite.{ResponseData}
 use Rattle.sshsuite.specs.Curve25519.{x25519}
+use Rattle.sshsuite.specs.HashBytes.{bytes_sha256}
 use Rattle.sshsuite.specs.Hybrid.{both_secrets, hybrid_respond, hybrid_share, hybrid_shared, response_of}
 use Rattle.sshsuite.specs.CurveBytes.{bytes_x25519, length_x25519}
 
@@ -22,21 +22,6 @@ curve_bytes scalar point = record { long = length_x25519 scalar point; bytes = b
 pub share_is : (random : List ℕ) → AreBytes 1216 (hybrid_share random)
 unfolding hybrid_share
 share_is random = both_parts 1184 32 _ _ (key_bytes _ _) (curve_bytes _ _)
-
-word_bytes : (n : ℕ) → IsBytes (to_be_bytes w32 n)
-word_bytes n = bytes_cons (n / 16777216 % 256) (n / 65536 % 256 ∷ n / 256 % 256 ∷ n % 256 ∷ []) (omega arith)
-    (bytes_cons (n / 65536 % 256) (n / 256 % 256 ∷ n % 256 ∷ []) (omega arith)
-    (bytes_cons (n / 256 % 256) (n % 256 ∷ []) (omega arith)
-    (bytes_cons (n % 256) [] (omega arith) bytes_none)))
-
-bytes_words : (h : List ℕ) (n : ℕ) → IsBytes (sha_bytes h n)
-unfolding sha_bytes
-bytes_words h zero = bytes_none
-bytes_words h (suc n) = bytes_append (sha_bytes h n) (to_be_bytes w32 (slice_index h n)) (bytes_words h n) (word_bytes (slice_index h n))
-
-bytes_sha256 : (m : List ℕ) → IsBytes (sha256 m)
-unfolding sha256
-bytes_sha256 m = bytes_words (final_hash initial_hash_256 m) 8
 
 hashed : (input : List ℕ) → AreBytes 32 (sha256 input)
 hashed input = record { long = length-sha256 input; bytes = bytes_sha256 input }

@@ -1,7 +1,7 @@
 -- AES by bits that stand apart, as the code has it.
 
 use Rattle.std.proofs.Common.{◌≡◌, add-one, refl}
-use Rattle.std.specs.Prelude.{ℕ, zero, suc, ◌+◌, ◌*◌, ◌/◌, ◌%◌, ◌^◌, List, [], ◌∷◌, slice_index, bit_and, bit_xor}
+use Rattle.std.specs.Prelude.{ℕ, zero, suc, ◌+◌, ◌-◌, ◌*◌, ◌/◌, ◌%◌, ◌^◌, List, [], ◌∷◌, length, slice_index, bit_and, bit_xor}
 use Rattle.sshsuite.specs.Aes.{shift_rows, turned_words}
 use Rattle.sshsuite.specs.SBox.{circuit}
 
@@ -76,6 +76,7 @@ pub planes_more : (keys blocks : List ℕ) (n : ℕ)
 unfolding planes_after
 planes_more keys blocks n = rw (add-one n) refl
 
--- eight blocks encrypted by their round keys
+-- eight blocks encrypted by their round keys, one more than there are rounds
 unfoldable pub eight_ciphers : List ℕ → List ℕ → List ℕ
-eight_ciphers keys blocks = exchanged (keyed (shifted_planes (images (planes_after keys blocks 13))) (key_planes (slice_index keys 14)))
+eight_ciphers keys blocks =
+    exchanged (keyed (shifted_planes (images (planes_after keys blocks (length keys - 2)))) (key_planes (slice_index keys (length keys - 1))))

@@ -1,20 +1,14 @@
-//! AES-256 (FIPS 197), without tables: a block is a number of 128 bits, the first byte the highest, and
+//! AES by keys of 16 and of 32 bytes (FIPS 197), without tables: a block is a number of 128 bits, the first byte the highest, and
 //! all its bytes are worked on at once, so that no branch and no index depends on one.
 
 ghost use Rattle.std.specs.Prelude.{◌≡◌, ◌<◌, ◌≤◌, ◌+◌, length};
 ghost use Rattle.sshsuite.specs.SlicedAes.{joined, planes};
-ghost use Rattle.sshsuite.specs.Aes.{cipher, doubled, highest_bits, last_round, last_word, mix_columns, next_pair, number_at, others_raised, round, round_keys, shift_rows, sub_bytes, summed_words, turned_words};
+ghost use Rattle.sshsuite.specs.Aes.{cipher, doubled, highest_bits, last_round, last_word, mix_columns, next_key, next_pair, number_at, others_raised, round, round_keys, shift_rows, short_round_keys, sub_bytes, summed_words, turned_words};
 
 use crate::s_box::{Planes, circuit};
 
 /// The lowest bit of each byte.
 pub(crate) const LOWEST: u128 = 0x01010101010101010101010101010101;
-
-/// How many rounds there are but the last.
-pub(crate) const ROUNDS: usize = 13;
-
-/// The round keys of AES-256.
-pub(crate) type RoundKeys = [u128; 15];
 
 /// The number of 16 bytes at a place, the highest first.
 #[tactic(auto, unfolding(crate::specs::Aes::number_at))]
@@ -176,7 +170,17 @@ fn summed_words(key: u128) -> u128
     pairs ^ (pairs >> 64)
 }
 
-/// The two round keys after two, with this round constant (FIPS 197 section 5.2).
+/// The round key of AES-128 after one, with this round constant (FIPS 197 section 5.2).
+#[tactic(auto, unfolding(crate::specs::Aes::next_key))]
+fn next_key(key: u128, constant: u128) -> u128
+    ensures { result ≡ next_key key constant }
+{
+    let added = sub_bytes(turned_words(last_word(key)))
+        ^ constant.wrapping_mul(0x01000000010000000100000001000000);
+    summed_words(key) ^ added
+}
+
+/// The two round keys of AES-256 after two, with this round constant (FIPS 197 section 5.2).
 #[tactic(auto, unfolding(crate::specs::Aes::next_pair))]
 fn next_pair(pair: [u128; 2], constant: u128) -> [u128; 2]
     ensures { result ≡ next_pair pair constant }
@@ -188,9 +192,9 @@ fn next_pair(pair: [u128; 2], constant: u128) -> [u128; 2]
     [first, second]
 }
 
-/// The round keys of a key, its first 32 bytes (FIPS 197 section 5.2).
+/// The round keys of AES-256, by a key's first 32 bytes (FIPS 197 section 5.2).
 #[tactic(auto, unfolding(crate::specs::Aes::round_keys))]
-pub(crate) fn round_keys(key: &[u8]) -> RoundKeys
+pub(crate) fn round_keys(key: &[u8]) -> [u128; 15]
     requires { 32 ≤ length key.now }
     ensures { result ≡ round_keys key.now }
 {
@@ -208,14 +212,36 @@ pub(crate) fn round_keys(key: &[u8]) -> RoundKeys
     ]
 }
 
-/// A block encrypted by its round keys (FIPS 197 section 5.1).
+/// The round keys of AES-128, by a key's first 16 bytes (FIPS 197 section 5.2).
+#[tactic(auto, unfolding(crate::specs::Aes::short_round_keys))]
+pub(crate) fn short_round_keys(key: &[u8]) -> [u128; 11]
+    requires { 16 ≤ length key.now }
+    ensures { result ≡ short_round_keys key.now }
+{
+    let k0 = number_at(key, 0);
+    let k1 = next_key(k0, 1);
+    let k2 = next_key(k1, 2);
+    let k3 = next_key(k2, 4);
+    let k4 = next_key(k3, 8);
+    let k5 = next_key(k4, 16);
+    let k6 = next_key(k5, 32);
+    let k7 = next_key(k6, 64);
+    let k8 = next_key(k7, 128);
+    let k9 = next_key(k8, 0x1b);
+    let k10 = next_key(k9, 0x36);
+    [k0, k1, k2, k3, k4, k5, k6, k7, k8, k9, k10]
+}
+
+/// A block encrypted by its round keys (FIPS 197 section 5.1), one more than there are rounds. How many these are tells
+/// how long the key is, which is no secret.
 #[tactic(auto, using(crate::specs::Aes::rounds_none, crate::specs::Aes::rounds_more), unfolding(crate::specs::Aes::cipher))]
-pub(crate) fn cipher(keys: &RoundKeys, block: u128) -> u128
+pub(crate) fn cipher(keys: &[u128], block: u128) -> u128
+    requires { 2 ≤ length keys.now }
     ensures { result ≡ cipher keys.now block }
 {
     let mut state = block ^ keys[0];
-    for i in 0..ROUNDS {
+    for i in 0..keys.len() - 2 {
         state = round(state, keys[i + 1]);
     }
-    last_round(state, keys[ROUNDS + 1])
+    last_round(state, keys[keys.len() - 1])
 }

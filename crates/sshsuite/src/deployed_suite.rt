@@ -1,10 +1,11 @@
 //! Algorithms that are deployed, as a suite.
 
 ghost use Rattle.std.specs.Prelude.{◌≡◌, ◌<◌, ◌≤◌, ◌^◌, IfOk, drop, length, option_map};
-ghost use Rattle.sshsuite.specs.Deployed.{deployed, is_aes256_gcm, is_curve25519, is_ed25519, is_group14, is_held, is_hybrid, is_verified, share, shared, shared_secret, verify, wrapped};
+ghost use Rattle.sshsuite.specs.Deployed.{aes_length, deployed, is_curve25519, is_ed25519, is_group14, is_held, is_hybrid, is_verified, share, shared, shared_secret, verify, wrapped};
 ghost use Rattle.sshsuite.specs.DeployedLaws.{deployed_lawful};
 
 use crate::chacha20::stream;
+use crate::cipher_names::{is_ctr, is_gcm, is_short_key};
 use crate::constant_time::is_equal;
 use crate::curve25519::{BASE_POINT, x25519};
 use crate::ed25519::{is_signature, public_key, signature};
@@ -14,7 +15,7 @@ use crate::hybrid::{hybrid_respond, hybrid_share, hybrid_shared};
 use crate::mpint::mpint_body;
 use crate::rsa::rsa_verify;
 use crate::rsa_fields::is_rsa;
-use crate::{gcm, sealing};
+use crate::{ctr, gcm, sealing};
 use sha2::{Digest, Sha256};
 use sshpacket::{
     Capability, KeyLens, Keys, Need, Response, ShareForm, Suite, copy_public_key, leading_uint32,
@@ -28,9 +29,10 @@ const ED25519: &str = "ssh-ed25519";
 /// A suite of algorithms that are deployed: the key exchanges mlkem768x25519-sha256 (draft-ietf-sshm-mlkem-hybrid-kex), which holds
 /// against whoever breaks one of ML-KEM-768 and X25519 later, curve25519-sha256 (RFC 8731), also under the
 /// name curve25519-sha256@libssh.org, and diffie-hellman-group14-sha256 (RFC 8268) for older peers, keys of ssh-ed25519
-/// (RFC 8709), signatures of rsa-sha2-256 and rsa-sha2-512 (RFC 8332) by others' keys, and the ciphers
-/// chacha20-poly1305@openssh.com (OpenSSH PROTOCOL.chacha20poly1305) and aes256-gcm@openssh.com (RFC 5647 as OpenSSH
-/// PROTOCOL section 1.6 has it).
+/// (RFC 8709), signatures of rsa-sha2-256 and rsa-sha2-512 (RFC 8332) by others' keys, the ciphers
+/// chacha20-poly1305@openssh.com (OpenSSH PROTOCOL.chacha20poly1305), aes256-gcm@openssh.com and aes128-gcm@openssh.com (RFC 5647 as
+/// OpenSSH PROTOCOL section 1.6 has it), aes256-ctr and aes128-ctr (RFC 4344 section 4), and for these two the MACs hmac-sha2-256 and
+/// hmac-sha2-512 (RFC 6668) and hmac-sha2-256-etm@openssh.com and hmac-sha2-512-etm@openssh.com (OpenSSH PROTOCOL section 1.5).
 ///
 /// It holds the private keys of ssh-ed25519 that are the 32 bytes of RFC 8032 section 5.1.5. By RSA it verifies and doesn't
 /// sign. What it doesn't hold stands for a key that is held elsewhere: `blob` takes bytes that begin with a name, as a
@@ -45,16 +47,21 @@ const ED25519: &str = "ssh-ed25519";
 ///   it doesn't know can neither sign nor encrypt: so no choice comes to one. A share of such a method is
 ///   refused.
 /// - A signature of an algorithm that it doesn't know is never valid.
-/// - Every other cipher is chacha20-poly1305@openssh.com, and every MAC is left out.
+/// - Every other cipher is chacha20-poly1305@openssh.com. Beside aes256-ctr and aes128-ctr every other MAC is hmac-sha2-256; beside
+///   the other ciphers, which have a tag of their own, every MAC is left out.
 ///
-/// The nonce of a packet under aes256-gcm@openssh.com tells how many packets came before it under the same keys. A suite
-/// is told the packet's number alone, which is that only where numbers begin anew with the keys: under strict key
-/// exchange. Elsewhere the first sealed packet isn't the peer's, and the endpoint fails as F4: so whoever lists
-/// this cipher lists it after another, or for peers that are strict.
+/// The ciphers by AES go on from packet to packet ([`advance`](Suite::advance)): the nonce of -gcm is raised by one, the counter of
+/// -ctr by the packet's blocks.
 ///
-/// What it computes is proved to be the RFCs' ([`deployed_law`](crate::deployed_law), [`rsa_law`](crate::rsa_law)), down to numbers; SHA-256,
-/// SHA-512 and ChaCha20 are the kit's. That two ends agree is proved of diffie-hellman-group14-sha256 alone
-/// ([`group14_law`](crate::group14_law)), and that a signature is verified by its own key isn't.
+/// Under a MAC without -etm, and under chacha20-poly1305@openssh.com, the length of a packet is deciphered and judged before its tag, as
+/// RFC 4253 section 6 has it. So whoever changes the length on the way sees by what the endpoint does whether the changed one may be a
+/// packet's, and after how many bytes it is refused. A changed bit changes that bit of the length; of the rest of the clear text nothing
+/// is told. With -etm and -gcm the length stands in clear. Lists have -ctr last, and of the MACs -etm first.
+///
+/// Of exchanges, signatures and AES itself what it computes is proved to be the RFCs' and FIPS 197's
+/// ([`deployed_law`](crate::deployed_law), [`rsa_law`](crate::rsa_law), [`aes_law`](crate::aes_law)), down to numbers; counter mode and HMAC
+/// are written as their definitions are; SHA-256, SHA-512 and ChaCha20 are the kit's. That two ends agree is proved of
+/// diffie-hellman-group14-sha256 alone ([`group14_law`](crate::group14_law)), and that a signature is verified by its own key isn't.
 ///
 /// Each method draws of the random bytes of an exchange by SHAKE256 of them and a byte of its own: so a share that was sent
 /// by one method tells nothing of what another draws, also where a guess was wrong and both are sent.
@@ -88,22 +95,36 @@ impl Suite for DeployedSuite {
     }
 
     fn block(&self, cipher: &str) -> u8 {
-        if is_aes256_gcm(cipher) { 16 } else { 8 }
+        if is_ctr(cipher) || is_gcm(cipher) {
+            16
+        } else {
+            8
+        }
     }
 
-    fn tag_len(&self, _cipher: &str, _mac: &str) -> u8 {
-        sealing::TAG_LEN as u8
+    fn tag_len(&self, cipher: &str, mac: &str) -> u8 {
+        if is_ctr(cipher) {
+            ctr::tag_length(mac)
+        } else {
+            sealing::TAG_LEN as u8
+        }
     }
 
-    fn counts_length(&self, _cipher: &str, _mac: &str) -> bool {
-        false
+    fn counts_length(&self, cipher: &str, mac: &str) -> bool {
+        is_ctr(cipher) && !ctr::covers_sealed(mac)
     }
 
-    fn key_lens(&self, cipher: &str, _mac: &str) -> KeyLens {
-        if is_aes256_gcm(cipher) {
+    fn key_lens(&self, cipher: &str, mac: &str) -> KeyLens {
+        if is_ctr(cipher) {
+            KeyLens {
+                iv: 16,
+                enc: aes_length(cipher),
+                mac: ctr::tag_length(mac),
+            }
+        } else if is_gcm(cipher) {
             KeyLens {
                 iv: 12,
-                enc: 32,
+                enc: aes_length(cipher),
                 mac: 0,
             }
         } else {
@@ -116,15 +137,20 @@ impl Suite for DeployedSuite {
     }
 
     fn seal(&self, alloc: Global, keys: &Keys, seq: u32, packet: &[u8]) -> Result<Vec<u8>, Memory> {
-        if is_aes256_gcm(keys.cipher()) {
-            gcm::seal(alloc, keys.iv(), keys.enc(), seq, packet)
+        let cipher = keys.cipher();
+        if is_ctr(cipher) {
+            ctr::seal(alloc, keys, seq, packet)
+        } else if is_gcm(cipher) {
+            gcm::seal(alloc, is_short_key(cipher), keys.iv(), keys.enc(), packet)
         } else {
             sealing::seal(alloc, keys.enc(), seq, packet)
         }
     }
 
     fn head(&self, keys: &Keys, seq: u32, first: [u8; 4]) -> u32 {
-        if is_aes256_gcm(keys.cipher()) {
+        if is_ctr(keys.cipher()) {
+            ctr::head(keys, first)
+        } else if is_gcm(keys.cipher()) {
             leading_uint32(&first)
         } else {
             sealing::head(keys.enc(), seq, first)
@@ -138,10 +164,21 @@ impl Suite for DeployedSuite {
         seq: u32,
         sealed: &[u8],
     ) -> Result<Option<Vec<u8>>, Memory> {
-        if is_aes256_gcm(keys.cipher()) {
-            gcm::unseal(alloc, keys.iv(), keys.enc(), seq, sealed)
+        let cipher = keys.cipher();
+        if is_ctr(cipher) {
+            ctr::unseal(alloc, keys, seq, sealed)
+        } else if is_gcm(cipher) {
+            gcm::unseal(alloc, is_short_key(cipher), keys.iv(), keys.enc(), sealed)
         } else {
             sealing::unseal(alloc, keys.enc(), seq, sealed)
+        }
+    }
+
+    fn advance(&self, keys: &mut Keys, len: usize) {
+        if is_ctr(keys.cipher()) {
+            ctr::advance(keys, len)
+        } else if is_gcm(keys.cipher()) {
+            gcm::advance(keys)
         }
     }
 
@@ -258,12 +295,11 @@ fn is_hybrid(kex: &str) -> bool
     kex == "mlkem768x25519-sha256"
 }
 
-/// Whether this is the name of aes256-gcm.
-#[tactic(auto, unfolding(crate::specs::Deployed::is_aes256_gcm))]
-fn is_aes256_gcm(cipher: &str) -> bool
-    ensures { result ≡ is_aes256_gcm cipher.now }
+/// How many bytes a key of AES has.
+fn aes_length(cipher: &str) -> u8
+    ensures { result ≡ aes_length cipher.now }
 {
-    cipher == "aes256-gcm@openssh.com"
+    if is_short_key(cipher) { 16 } else { 32 }
 }
 
 /// Whether these bytes are a private key of ssh-ed25519, which has 32.

@@ -84,6 +84,10 @@ impl Suite for KeyedSuite<'_> {
         DeployedSuite.unseal(alloc, keys, seq, sealed)
     }
 
+    fn advance(&self, keys: &mut Keys, len: usize) {
+        DeployedSuite.advance(keys, len)
+    }
+
     fn padding(&self, alloc: Global, seed: &[u8], seq: u32, len: u8) -> Result<Vec<u8>, Memory> {
         DeployedSuite.padding(alloc, seed, seq, len)
     }

@@ -5,8 +5,8 @@ ghost use Rattle.sshpacket.specs.KeysElsewhere.{public_part};
 ghost use Rattle.sshpacket.specs.Suite.{ResponseData};
 ghost use Rattle.std.specs.Prelude.{false, ◌≡◌, ◌<◌, ◌+◌, ◌*◌, ◌%◌, ◌^◌, List, Some, true, ℕ, bit_xor, length, slice_index};
 ghost use Rattle.sshwire.specs.Types.{IsBytes};
-ghost use Rattle.sshsuite.specs.Aes.{cipher, number_at, round_keys};
-ghost use Rattle.sshsuite.specs.AesBytes.{IsExpanded, bit_of, block_of, byte_inverse, byte_mapped, byte_product, encrypted_state, key_state, mapped_bit, sample_key, tag_additional, tag_key, tag_sealed};
+ghost use Rattle.sshsuite.specs.Aes.{cipher, number_at, round_keys, short_round_keys};
+ghost use Rattle.sshsuite.specs.AesBytes.{IsExpanded, IsShortSchedule, bit_of, block_of, byte_inverse, byte_mapped, byte_product, encrypted_state, key_state, mapped_bit, sample_key, short_sample_key, tag_additional, tag_key, tag_sealed};
 ghost use Rattle.sshsuite.specs.Bits.{number_of_32};
 ghost use Rattle.sshsuite.specs.Curve25519.{clamped, x25519};
 ghost use Rattle.sshsuite.specs.DecodingNumbers.{AreAlike, point_in};
@@ -80,19 +80,23 @@ pub fn poly1305_law()
     ensures { (key input : List ℕ) → IsBytes key → IsBytes input → tag_of key input ≡ mac key input }
 {}
 
-/// The law of AES: a block is a number of 16 bytes, the first the highest (`block`), and by a key of 32 bytes it is encrypted as FIPS
-/// 197 tells, byte by byte (`cipher`): by the rounds of section 5.1, and for all words that are the key's schedule of
-/// section 5.2. There the S-box is the inverse in GF(2^8) (`inverse`, and `zero` of zero) and then the affine map, bit by
-/// bit (`affine`). The example of appendix C.3 comes out (`example`).
+/// The law of AES: a block is a number of 16 bytes, the first the highest (`block`), and by a key of 32 bytes (`cipher`) or of
+/// 16 (`short_cipher`) it is encrypted as FIPS 197 tells, byte by byte: by the 14 or 10 rounds of section 5.1, and for all words that
+/// are the key's schedule of section 5.2. There the S-box is the inverse in GF(2^8) (`inverse`, and `zero` of zero) and then the
+/// affine map, bit by bit (`affine`). The examples of appendix C.3 (`example`) and C.1 (`short_example`) come out.
 pub fn aes_law()
     ensures block { (bytes : List ℕ) (i : ℕ) → number_at bytes i ≡ block_of 16 (λ k. slice_index bytes (i + k)) }
     ensures cipher { (key : List ℕ) (words : ℕ → ℕ → ℕ) (state : ℕ → ℕ) → IsExpanded (λ k. slice_index key k) words
         → ((n r : ℕ) → words n r < 2 ^ 8) → ((i : ℕ) → state i < 2 ^ 8)
-        → cipher (round_keys key) (block_of 16 state) ≡ block_of 16 (encrypted_state (key_state words) state) }
+        → cipher (round_keys key) (block_of 16 state) ≡ block_of 16 (encrypted_state 14 (key_state words) state) }
+    ensures short_cipher { (key : List ℕ) (words : ℕ → ℕ → ℕ) (state : ℕ → ℕ) → IsShortSchedule (λ k. slice_index key k) words
+        → ((n r : ℕ) → words n r < 2 ^ 8) → ((i : ℕ) → state i < 2 ^ 8)
+        → cipher (short_round_keys key) (block_of 16 state) ≡ block_of 16 (encrypted_state 10 (key_state words) state) }
     ensures inverse { (b : ℕ) → 0 < b → b < 256 → byte_product b (byte_inverse b) ≡ 1 }
     ensures zero { byte_inverse 0 ≡ 0 }
     ensures affine { (b i : ℕ) → b < 256 → i < 8 → bit_of (byte_mapped b) i ≡ mapped_bit b i }
     ensures example { cipher (round_keys sample_key) 0x00112233445566778899aabbccddeeff ≡ 0x8ea2b7ca516745bfeafc49904b496089 }
+    ensures short_example { cipher (short_round_keys short_sample_key) 0x00112233445566778899aabbccddeeff ≡ 0x69c4e0d86a7b0430d8cdb78070b4c55a }
 {}
 
 /// The law of GCM: the tag of test case 16 of its specification comes out, whose additional data and sealed bytes are no whole

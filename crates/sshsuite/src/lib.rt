@@ -1,12 +1,15 @@
 //! Algorithms that are deployed, as a suite: mlkem768x25519-sha256, curve25519-sha256, diffie-hellman-group14-sha256, ssh-ed25519, signatures of
-//! rsa-sha2-256 and rsa-sha2-512 that are verified, chacha20-poly1305@openssh.com and aes256-gcm@openssh.com.
+//! rsa-sha2-256 and rsa-sha2-512 that are verified, chacha20-poly1305@openssh.com, and AES as -gcm and as -ctr with HMACs.
 #![tactic(auto)]
 
 mod aes;
 mod bits;
 mod carryless;
 mod chacha20;
+mod cipher_names;
 mod constant_time;
+mod counter_mode;
+mod ctr;
 mod curve25519;
 mod deployed_inventory;
 mod deployed_suite;
@@ -17,6 +20,7 @@ mod field_element;
 mod gcm;
 mod ghash;
 mod group14;
+mod hmac;
 mod hybrid;
 mod key_pair;
 mod keyed_suite;

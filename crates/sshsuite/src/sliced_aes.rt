@@ -1,10 +1,10 @@
-//! AES-256 of eight blocks at once. Plane k has bit k of each byte of them all: at each byte's place those of the eight blocks, the first
+//! AES of eight blocks at once. Plane k has bit k of each byte of them all: at each byte's place those of the eight blocks, the first
 //! lowest. So rows and columns are turned in a plane as in a block.
 
-ghost use Rattle.std.specs.Prelude.{◌≡◌, ◌<◌, ◌*◌, ◌/◌, ◌%◌, ◌^◌, bit_and};
+ghost use Rattle.std.specs.Prelude.{◌≡◌, ◌<◌, ◌≤◌, ◌*◌, ◌/◌, ◌%◌, ◌^◌, bit_and, length};
 ghost use Rattle.sshsuite.specs.SlicedAes.{eight_ciphers, exchanged, gathered, images, key_planes, keyed, mixed_plane, mixed_planes, planes_after, shifted_planes, spread, turned_planes};
 
-use crate::aes::{LOWEST, ROUNDS, RoundKeys, joined, shift_rows, turned_words};
+use crate::aes::{LOWEST, joined, shift_rows, turned_words};
 use crate::s_box::{Planes, circuit};
 
 /// How many blocks are worked on at once.
@@ -179,17 +179,21 @@ fn mixed_planes(p: Planes) -> Planes
     ]
 }
 
-/// Eight blocks encrypted by their round keys (section 5.1).
+/// Eight blocks encrypted by their round keys (section 5.1), one more than there are rounds.
 #[tactic(auto, using(crate::specs::SlicedAes::planes_none, crate::specs::SlicedAes::planes_more), unfolding(crate::specs::SlicedAes::eight_ciphers))]
-pub(crate) fn eight_ciphers(keys: &RoundKeys, blocks: Planes) -> Planes
+pub(crate) fn eight_ciphers(keys: &[u128], blocks: Planes) -> Planes
+    requires { 2 ≤ length keys.now }
     ensures { result ≡ eight_ciphers keys.now blocks }
 {
     let mut state = keyed(exchanged(blocks), key_planes(keys[0]));
-    for i in 0..ROUNDS {
+    for i in 0..keys.len() - 2 {
         state = keyed(
             mixed_planes(shifted_planes(images(state))),
             key_planes(keys[i + 1]),
         );
     }
-    exchanged(keyed(shifted_planes(images(state)), key_planes(keys[ROUNDS + 1])))
+    exchanged(keyed(
+        shifted_planes(images(state)),
+        key_planes(keys[keys.len() - 1]),
+    ))
 }

@@ -1,7 +1,8 @@
--- What the second suite for tests answers: packet_length in clear and covered by the tag, shares that are bytes, and an answer
--- that depends on the client's share. It is over SHA-256, insecure, and for tests alone.
+-- What the second suite for tests answers: packet_length in clear and covered by the tag, ciphers that go on from packet to packet,
+-- shares that are bytes, and an answer that depends on the client's share. It is over SHA-256, insecure, and for tests alone.
 
-use Rattle.std.specs.Prelude.{ℕ, ◌-◌, ◌==◌, ◌&&◌, false, nat_le, if◌then◌else◌, true, List, ◌∷◌, ◌++◌, length, take, drop, slice_index, Option, None, Some}
+use Rattle.std.specs.Prelude.{ℕ, ◌+◌, ◌-◌, ◌%◌, ◌^◌, ◌==◌, ◌&&◌, false, nat_eq, nat_le, if◌then◌else◌, true, List, [], ◌∷◌, ◌++◌, length, take, drop, slice_index, Option, None, Some}
+use Rattle.std.specs.List.{ends_with}
 use Rattle.std.specs.Str.{bytes_eq}
 use Rattle.sha2.specs.Sha256.{sha256}
 use Rattle.sshwire.specs.Types.{uint32}
@@ -32,6 +33,14 @@ kem_checked keys seq covered found = if bytes_eq found (kem_tag keys seq covered
 unfoldable pub kem_unseal : KeysData → ℕ → List ℕ → Option (List ℕ)
 kem_unseal keys seq sealed =
     if nat_le 20 (length sealed) then kem_checked keys seq (take (length sealed - 16) sealed) (drop (length sealed - 16) sealed) else None
+
+-- the vector after a packet of so many bytes: its last four bytes are a number, to which these are added, in 32 bits
+unfoldable pub counted_iv : List ℕ → ℕ → List ℕ
+counted_iv iv len = take 8 iv ++ uint32 ((number (drop 8 iv) + len % 2 ^ 32) % 2 ^ 32)
+
+-- a cipher whose name ends with go goes on from packet to packet by vectors of 12 bytes, and no other does
+unfoldable pub kem_next_iv : KeysData → ℕ → List ℕ
+kem_next_iv keys len = if ends_with nat_eq keys.cipher (103 ∷ 111 ∷ []) && (length keys.iv == 12) then counted_iv keys.iv len else keys.iv
 
 -- the client's share of 32 random bytes
 abbrev pub kem_share : List ℕ → List ℕ
@@ -69,6 +78,7 @@ kem = record {
   seal = kem_seal;
   head = λ keys seq first. number first;
   unseal = kem_unseal;
+  next_iv = kem_next_iv;
   padding = lab.padding;
   share_form = λ kex. Hybrid;
   share = λ kex random. kem_share random;

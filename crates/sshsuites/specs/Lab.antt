@@ -112,6 +112,7 @@ lab = record {
   seal = lab_seal;
   head = lab_head;
   unseal = lab_unseal;
+  next_iv = λ keys len. keys.iv;
   padding = lab_padding;
   share_form = λ kex. Mpint;
   share = λ kex random. lab_share random;

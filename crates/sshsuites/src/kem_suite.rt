@@ -1,7 +1,7 @@
 //! A second suite of algorithms for tests, over SHA-256, in the other mode. It is insecure.
 
 ghost use Rattle.std.specs.Prelude.{◌≡◌, ◌^◌, ◌+◌, ◌<◌, ◌≤◌, ◌∷◌, IfOk, drop, length, take};
-ghost use Rattle.sshsuites.specs.Kem.{crossed, kem, kem_answer, kem_number, kem_tag};
+ghost use Rattle.sshsuites.specs.Kem.{counted_iv, crossed, kem, kem_answer, kem_number, kem_tag};
 ghost use Rattle.sshsuites.specs.Lab.{xored};
 ghost use Rattle.sshsuites.specs.KemLaws.{kem_agreeing, kem_lawful};
 
@@ -17,8 +17,12 @@ use std::alloc::Global;
 /// How many bytes a tag has.
 const TAG_LEN: usize = 16;
 
+/// How many bytes an initialisation vector has.
+const IV_LEN: usize = 12;
+
 /// A suite for tests alone. **It is insecure.** It is all that [`LabSuite`](crate::LabSuite) isn't:
 /// packet_length stands in clear, is covered by the tag and doesn't count towards the multiple;
+/// a cipher whose name ends with `go` goes on from packet to packet;
 /// shares are bytes, and the server's depends on the client's, as in a key encapsulation. Blocks,
 /// padding, hashes and host keys are `LabSuite`'s.
 #[derive(Clone, Copy, Debug)]
@@ -52,7 +56,7 @@ impl Suite for KemSuite {
 
     fn key_lens(&self, _cipher: &str, _mac: &str) -> KeyLens {
         KeyLens {
-            iv: 12,
+            iv: IV_LEN as u8,
             enc: 64,
             mac: 0,
         }
@@ -86,6 +90,14 @@ impl Suite for KemSuite {
             Ok(Some(crossed(alloc, keys, seq, covered)?))
         } else {
             Ok(None)
+        }
+    }
+
+    #[tactic(auto, unfolding(crate::specs::Kem::kem_next_iv))]
+    fn advance(&self, keys: &mut Keys, len: usize) {
+        if keys.cipher().as_bytes().ends_with(b"go") && keys.iv().len() == IV_LEN {
+            let next = counted_iv(keys.iv(), len);
+            keys.set_iv(&next);
         }
     }
 
@@ -211,6 +223,19 @@ fn number_of(alloc: Global, random: &[u8], client: &[u8], server: &[u8]) -> Resu
     ensures { IfOk result (λ number. number.items ≡ kem_number random.now client.now server.now) }
 {
     Ok(Vec::from_slice(alloc, &shared_secret(random, client, server))?)
+}
+
+/// The vector after a packet of so many bytes: they are added to the number that its last four bytes are, in 32 bits.
+#[tactic(auto, unfolding(crate::specs::Kem::counted_iv))]
+fn counted_iv(iv: &[u8], len: usize) -> [u8; 12]
+    requires { length iv.now ≡ 12 }
+    ensures { result ≡ counted_iv iv.now len }
+{
+    let count = leading_uint32(&iv[8..]).wrapping_add((len % 0x100000000) as u32);
+    let mut next = [0; 12];
+    next.copy_from_slice(iv);
+    next[8..].copy_from_slice(&count.to_be_bytes());
+    next
 }
 
 /// The first four bytes as they are, and the others XOR the key stream.

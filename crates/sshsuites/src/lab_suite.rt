@@ -104,6 +104,8 @@ impl Suite for LabSuite {
         }
     }
 
+    fn advance(&self, _keys: &mut Keys, _len: usize) {}
+
     #[tactic(auto, unfolding(crate::specs::Lab::lab_padding))]
     fn padding(&self, alloc: Global, seed: &[u8], seq: u32, len: u8) -> Result<Vec<u8>, Memory> {
         let mut padding = stream(alloc, seed, &[], seq, usize::from(len))?;

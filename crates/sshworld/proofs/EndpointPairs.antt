@@ -38,53 +38,53 @@ module _ (setup : Setup) where
 
   -- an endpoint that ended authenticated was refused nothing
   pub history_so : (kept : StateData) (i : Input) (h s : List ℕ) (p : EndpointStands setup kept i h s) (agreed : AgreedData) → kept.end ≡ Authenticated agreed
-      → History setup p.units p.rest None p.answers (Authenticated agreed) h s
+      → History setup p.units p.sizes p.rest None p.answers (Authenticated agreed) h s
   history_so kept i h s p agreed is =
-      let now : History setup p.units p.rest p.refusal p.answers (Authenticated agreed) h s =
-      subst (λ (e : EndData). History setup p.units p.rest p.refusal p.answers e h s) (uncut_end p.received_end kept.end agreed p.ends is) p.history in
-      subst (λ (r : Option Refusal). History setup p.units p.rest r p.answers (Authenticated agreed) h s) (unrefused p.units p.refusal agreed now.replies.ends) now
+      let now : History setup p.units p.sizes p.rest p.refusal p.answers (Authenticated agreed) h s =
+      subst (λ (e : EndData). History setup p.units p.sizes p.rest p.refusal p.answers e h s) (uncut_end p.received_end kept.end agreed p.ends is) p.history in
+      subst (λ (r : Option Refusal). History setup p.units p.sizes p.rest r p.answers (Authenticated agreed) h s) (unrefused p.units p.refusal agreed now.replies.ends) now
 
 module _ {S D : Type 0} (meaning : S → SuiteData) (policy : D → DecisionsData) where
   module _ (laws : Laws) (below : Below) (c : ClientData) (s : ServerData) (client server : EndpointData S D) (client_received client_sent server_received server_sent : List ℕ)
       (lawful : IsLawful (meaning client.suite)) (receive : BothReceive (meaning client.suite) (policy client.decisions) c s (wording_of (meaning client.suite) (policy client.decisions) c s))
       (j : AreJoined meaning policy c s client server client_received client_sent server_received server_sent) (a b : AgreedData)
       (is : endpoint_end client ≡ Authenticated a) (other_is : endpoint_end server ≡ Authenticated b) where
-    client_history : History (client_setup (meaning client.suite) (policy client.decisions) c) j.client_after.units j.client_after.rest None j.client_after.answers (Authenticated a) client_received client_sent
+    client_history : History (client_setup (meaning client.suite) (policy client.decisions) c) j.client_after.units j.client_after.sizes j.client_after.rest None j.client_after.answers (Authenticated a) client_received client_sent
     client_history =
         let p = j.client_after in
-        subst (λ (r : Side). History (setup_with (meaning client.suite) (policy client.decisions) r (config_of_client c)) p.units p.rest None p.answers (Authenticated a) client_received client_sent) j.is_client
-        (subst (λ (q : ConfigData). History (setup_with (meaning client.suite) (policy client.decisions) client.role q) p.units p.rest None p.answers (Authenticated a) client_received client_sent) j.of_client
+        subst (λ (r : Side). History (setup_with (meaning client.suite) (policy client.decisions) r (config_of_client c)) p.units p.sizes p.rest None p.answers (Authenticated a) client_received client_sent) j.is_client
+        (subst (λ (q : ConfigData). History (setup_with (meaning client.suite) (policy client.decisions) client.role q) p.units p.sizes p.rest None p.answers (Authenticated a) client_received client_sent) j.of_client
         (history_so (endpoint_setup meaning policy client) _ client.input client_received client_sent p a is))
 
-    server_history : History (server_setup (meaning client.suite) (policy client.decisions) s) j.server_after.units j.server_after.rest None j.server_after.answers (Authenticated b) server_received server_sent
+    server_history : History (server_setup (meaning client.suite) (policy client.decisions) s) j.server_after.units j.server_after.sizes j.server_after.rest None j.server_after.answers (Authenticated b) server_received server_sent
     server_history =
         let p = j.server_after in
-        subst (λ (r : Side). History (setup_with (meaning client.suite) (policy client.decisions) r (config_of_server s)) p.units p.rest None p.answers (Authenticated b) server_received server_sent) j.is_server
-        (subst (λ (q : ConfigData). History (setup_with (meaning client.suite) (policy client.decisions) server.role q) p.units p.rest None p.answers (Authenticated b) server_received server_sent) j.of_server
-        (subst (λ (k : S). History (setup_with (meaning k) (policy client.decisions) server.role server.party) p.units p.rest None p.answers (Authenticated b) server_received server_sent) j.one_suite
-        (subst (λ (k : D). History (setup_with (meaning server.suite) (policy k) server.role server.party) p.units p.rest None p.answers (Authenticated b) server_received server_sent) j.same_decisions
+        subst (λ (r : Side). History (setup_with (meaning client.suite) (policy client.decisions) r (config_of_server s)) p.units p.sizes p.rest None p.answers (Authenticated b) server_received server_sent) j.is_server
+        (subst (λ (q : ConfigData). History (setup_with (meaning client.suite) (policy client.decisions) server.role q) p.units p.sizes p.rest None p.answers (Authenticated b) server_received server_sent) j.of_server
+        (subst (λ (k : S). History (setup_with (meaning k) (policy client.decisions) server.role server.party) p.units p.sizes p.rest None p.answers (Authenticated b) server_received server_sent) j.one_suite
+        (subst (λ (k : D). History (setup_with (meaning server.suite) (policy k) server.role server.party) p.units p.sizes p.rest None p.answers (Authenticated b) server_received server_sent) j.same_decisions
         (history_so (endpoint_setup meaning policy server) _ server.input server_received server_sent p b other_is))))
 
     pub joined_received : (client_received ≡ server_sent) × (server_received ≡ client_sent) × (a ≡ b)
     joined_received =
         let p = j.client_after in
         let q = j.server_after in
-        all_received laws below (meaning client.suite) (policy client.decisions) lawful c s (wording_of (meaning client.suite) (policy client.decisions) c s) receive p.units p.answers p.rest client_received client_sent a client_history
-        q.units q.answers q.rest server_received server_sent b server_history j.to_client j.to_server
+        all_received laws below (meaning client.suite) (policy client.decisions) lawful c s (wording_of (meaning client.suite) (policy client.decisions) c s) receive p.units p.answers p.sizes p.rest client_received client_sent a client_history
+        q.units q.answers q.sizes q.rest server_received server_sent b server_history j.to_client j.to_server
 
-    pub joined_crosswise : (one other : Session) → IsSession (endpoint_setup meaning policy client) j.client_after.units j.client_after.answers a one
-        → IsSession (endpoint_setup meaning policy server) j.server_after.units j.server_after.answers b other → AreCrosswise one other
+    pub joined_crosswise : (one other : Session) → IsSession (endpoint_setup meaning policy client) j.client_after.units j.client_after.answers j.client_after.sizes a one
+        → IsSession (endpoint_setup meaning policy server) j.server_after.units j.server_after.answers j.server_after.sizes b other → AreCrosswise one other
     joined_crosswise one other t u =
         let p = j.client_after in
         let q = j.server_after in
-        crosswise laws below (meaning client.suite) (policy client.decisions) lawful c s (wording_of (meaning client.suite) (policy client.decisions) c s) receive p.units p.answers p.rest client_received client_sent a client_history
-        q.units q.answers q.rest server_received server_sent b server_history j.to_client j.to_server one other
-        (subst (λ (r : Side). IsSession (setup_with (meaning client.suite) (policy client.decisions) r (config_of_client c)) p.units p.answers a one) j.is_client
-        (subst (λ (x : ConfigData). IsSession (setup_with (meaning client.suite) (policy client.decisions) client.role x) p.units p.answers a one) j.of_client t))
-        (subst (λ (r : Side). IsSession (setup_with (meaning client.suite) (policy client.decisions) r (config_of_server s)) q.units q.answers b other) j.is_server
-        (subst (λ (x : ConfigData). IsSession (setup_with (meaning client.suite) (policy client.decisions) server.role x) q.units q.answers b other) j.of_server
-        (subst (λ (k : S). IsSession (setup_with (meaning k) (policy client.decisions) server.role server.party) q.units q.answers b other) j.one_suite
-        (subst (λ (k : D). IsSession (setup_with (meaning server.suite) (policy k) server.role server.party) q.units q.answers b other) j.same_decisions u))))
+        crosswise laws below (meaning client.suite) (policy client.decisions) lawful c s (wording_of (meaning client.suite) (policy client.decisions) c s) receive p.units p.answers p.sizes p.rest client_received client_sent a client_history
+        q.units q.answers q.sizes q.rest server_received server_sent b server_history j.to_client j.to_server one other
+        (subst (λ (r : Side). IsSession (setup_with (meaning client.suite) (policy client.decisions) r (config_of_client c)) p.units p.answers p.sizes a one) j.is_client
+        (subst (λ (x : ConfigData). IsSession (setup_with (meaning client.suite) (policy client.decisions) client.role x) p.units p.answers p.sizes a one) j.of_client t))
+        (subst (λ (r : Side). IsSession (setup_with (meaning client.suite) (policy client.decisions) r (config_of_server s)) q.units q.answers q.sizes b other) j.is_server
+        (subst (λ (x : ConfigData). IsSession (setup_with (meaning client.suite) (policy client.decisions) server.role x) q.units q.answers q.sizes b other) j.of_server
+        (subst (λ (k : S). IsSession (setup_with (meaning k) (policy client.decisions) server.role server.party) q.units q.answers q.sizes b other) j.one_suite
+        (subst (λ (k : D). IsSession (setup_with (meaning server.suite) (policy k) server.role server.party) q.units q.answers q.sizes b other) j.same_decisions u))))
 
   had : (end : EndData) (a : AgreedData) → end ≡ Authenticated a → end ≢ Failed fault.Memory
   had end a is failed = cc (is, failed)

@@ -77,11 +77,11 @@ module _ {S D : Type 0} (meaning : S → SuiteData) (policy : D → DecisionsDat
 
   -- what is handed over by both, of which the law of sessions says that it matches
   pub handed : (r q : Option Session)
-      → (x : Session) × (r ≡ Some x) × IsSession (endpoint_setup meaning policy client.endpoint) client_after.units client_after.answers a x × (client_after.rest ≡ [])
-      → (y : Session) × (q ≡ Some y) × IsSession (endpoint_setup meaning policy server.endpoint) server_after.units server_after.answers b y × (server_after.rest ≡ [])
+      → (x : Session) × (r ≡ Some x) × IsSession (endpoint_setup meaning policy client.endpoint) client_after.units client_after.answers client_after.sizes a x × (client_after.rest ≡ [])
+      → (y : Session) × (q ≡ Some y) × IsSession (endpoint_setup meaning policy server.endpoint) server_after.units server_after.answers server_after.sizes b y × (server_after.rest ≡ [])
       → ((x y : Session) → AreUnderstood (meaning client.endpoint.suite) (policy client.endpoint.decisions) c s
-      → IsSession (endpoint_setup meaning policy client.endpoint) nodes_joined.client_after.units nodes_joined.client_after.answers a x
-      → IsSession (endpoint_setup meaning policy server.endpoint) nodes_joined.server_after.units nodes_joined.server_after.answers b y → AreCrosswise x y)
+      → IsSession (endpoint_setup meaning policy client.endpoint) nodes_joined.client_after.units nodes_joined.client_after.answers nodes_joined.client_after.sizes a x
+      → IsSession (endpoint_setup meaning policy server.endpoint) nodes_joined.server_after.units nodes_joined.server_after.answers nodes_joined.server_after.sizes b y → AreCrosswise x y)
       → HandOver meaning policy (AreUnderstood (meaning suite) (policy decisions) c s) (seen c s suite decisions client server) a b (option_zip r q)
   unfolding client_after server_after nodes_joined
   handed r q (x, rx, sx, _) (y, qy, sy, _) law =

@@ -51,16 +51,16 @@ sent_within p units answers end is = subst (λ (q : Units). IsPrefix q (payloads
 
 -- Their endpoint has sent these bytes, of which the own one has read these units.
 module _ (laws : Laws) (below : Below) (m : SuiteData) (d : DecisionsData) (lawful : IsLawful m) (own their : Partner) (receives : ReceivesCourse m d own their)
-    (units answers : Units) (rest h s : List ℕ) (end : EndData) (b : History (partner_setup m d their) units rest None answers end h s)
-    (us : Units) (left received : List ℕ) (refusal : Option Refusal) (a : Received (parsers m own.role own.party) received us left refusal) (to_own : IsPrefix received s) where
+    (units answers : Units) (sizes rest h s : List ℕ) (end : EndData) (b : History (partner_setup m d their) units sizes rest None answers end h s)
+    (us : Units) (ns left received : List ℕ) (refusal : Option Refusal) (a : Received (parsers m own.role own.party) received us ns left refusal) (to_own : IsPrefix received s) where
   in_part_of : IsPrefix units (stream_of own) → IsInPart their.part units answers end
   in_part_of f = receives.keeps units answers end f b.replies
 
   -- where they have received units of the course alone, they have sent such
   pub received_of_whole : IsPrefix units (stream_of own) → IsPrefix us (their.party.version ∷ answers)
   received_of_whole f =
-      (received_prefix laws m d lawful own.role their.role own.party their.party (payloads_of own) (payloads_of their) receives.received units answers rest h s None end b f
-      (sent_within their units answers end (in_part_of f)) received to_own.rest us left refusal to_own.whole_is a).prefix
+      (received_prefix laws m d lawful own.role their.role own.party their.party (payloads_of own) (payloads_of their) receives.received units answers sizes rest h s None end b f
+      (sent_within their units answers end (in_part_of f)) received to_own.rest us ns left refusal to_own.whole_is a).prefix
 
   pub in_stream : IsPrefix units (stream_of own) → IsPrefix us (stream_of their)
   in_stream f = prefix-through us (their.party.version ∷ answers) (stream_of their) (received_of_whole f) (sent_prefix their.part units answers end (in_part_of f) their.party.version)
@@ -87,9 +87,9 @@ module _ (laws : Laws) (below : Below) (m : SuiteData) (d : DecisionsData) (lawf
         let spelled : EachPlace (Spelled (parsers m own.role own.party) (spells m their.role their.party so)) [] (their.party.version ∷ sent) =
         all_spelled m own.role their.role own.party their.party (payloads_of own) (payloads_of their) receives.received so sent speaks laws lawful in
         let bytes : IsPrefix (flat_places (spells m their.role their.party so) [] (their.party.version ∷ sent)) s = bytes_so (partner_setup m d their) units so more answers s e more_units_sent ready b.sent in
-        one_way (parsers m own.role own.party) (spells m their.role their.party so) [] (their.party.version ∷ sent) us s bytes.rest (left ++ to_own.rest) bytes.whole_is spelled
-        (subst (λ (t : List ℕ). Read (parsers m own.role own.party) [] t us (left ++ to_own.rest)) (sym to_own.whole_is)
-        (read_more (parsers m own.role own.party) (laws.parsers m own.role own.party) [] received to_own.rest us left a.read))
+        one_way (parsers m own.role own.party) (spells m their.role their.party so) [] (their.party.version ∷ sent) us ns s bytes.rest (left ++ to_own.rest) bytes.whole_is spelled
+        (subst (λ (t : List ℕ). Read (parsers m own.role own.party) [] [] t us ns (left ++ to_own.rest)) (sym to_own.whole_is)
+        (read_more (parsers m own.role own.party) (laws.parsers m own.role own.party) [] [] received to_own.rest us ns left a.read))
 
     so_in_stream : IsPrefix (their.party.version ∷ sent_so (partner_setup m d their) so) (stream_of their)
     so_in_stream = sent_prefix their.part so (sent_so (partner_setup m d their) so) Open in_part_so their.party.version
@@ -117,7 +117,7 @@ module _ (laws : Laws) (below : Below) (m : SuiteData) (d : DecisionsData) (lawf
 
 -- An endpoint has received no more units of the course than its part receives.
 module _ (m : SuiteData) (d : DecisionsData) (own their : Partner) (receives : ReceivesCourse m d their own) (final : own.part.final ≢ Open)
-    (units answers : Units) (rest h s : List ℕ) (end : EndData) (a : History (partner_setup m d own) units rest None answers end h s) where
+    (units answers : Units) (sizes rest h s : List ℕ) (end : EndData) (a : History (partner_setup m d own) units sizes rest None answers end h s) where
   pub no_more : IsPrefix (take own.part.receives units) (stream_of their) → length units ≤ own.part.receives
   no_more f = elim (dec_lt own.part.receives (length units)) [
     | no ge ↦ omega (arith, ge)
@@ -136,10 +136,10 @@ module _ (m : SuiteData) (d : DecisionsData) (own their : Partner) (receives : R
 
 -- Both.
 module _ (laws : Laws) (below : Below) (m : SuiteData) (d : DecisionsData) (lawful : IsLawful m) (c : ClientData) (s : ServerData) (w : Wording) (receive : BothReceive m d c s w)
-    (client_units client_answers : Units) (client_rest client_received client_sent : List ℕ) (client_end : EndData)
-    (a : History (client_setup m d c) client_units client_rest None client_answers client_end client_received client_sent)
-    (server_units server_answers : Units) (server_rest server_received server_sent : List ℕ) (server_end : EndData)
-    (b : History (server_setup m d s) server_units server_rest None server_answers server_end server_received server_sent)
+    (client_units client_answers : Units) (client_sizes client_rest client_received client_sent : List ℕ) (client_end : EndData)
+    (a : History (client_setup m d c) client_units client_sizes client_rest None client_answers client_end client_received client_sent)
+    (server_units server_answers : Units) (server_sizes server_rest server_received server_sent : List ℕ) (server_end : EndData)
+    (b : History (server_setup m d s) server_units server_sizes server_rest None server_answers server_end server_received server_sent)
     (to_client : IsPrefix client_received server_sent) (to_server : IsPrefix server_received client_sent) where
   abbrev cp : Partner
   cp = client_partner m d c s w
@@ -153,10 +153,10 @@ module _ (laws : Laws) (below : Below) (m : SuiteData) (d : DecisionsData) (lawf
     server : IsPrefix (take at.server server_units) (stream_of cp)
 
   server_step : (k n : ℕ) → n ≤ units_sent cp.part k → IsPrefix (take k client_units) (stream_of sp) → IsPrefix (take n server_units) (stream_of cp)
-  server_step = step laws below m d lawful sp cp receive.to_server client_units client_answers client_rest client_received client_sent client_end a server_units server_rest server_received None b.received to_server
+  server_step = step laws below m d lawful sp cp receive.to_server client_units client_answers client_sizes client_rest client_received client_sent client_end a server_units server_sizes server_rest server_received None b.received to_server
 
   client_step : (k n : ℕ) → n ≤ units_sent sp.part k → IsPrefix (take k server_units) (stream_of cp) → IsPrefix (take n client_units) (stream_of sp)
-  client_step = step laws below m d lawful cp sp receive.to_client server_units server_answers server_rest server_received server_sent server_end b client_units client_rest client_received None a.received to_client
+  client_step = step laws below m d lawful cp sp receive.to_client server_units server_answers server_sizes server_rest server_received server_sent server_end b client_units client_sizes client_rest client_received None a.received to_client
 
   brought : (r : ℕ) → Brought (after_rounds cp.part sp.part r)
   brought zero = record { client = record { rest = stream_of sp; whole_is = refl }; server = record { rest = stream_of cp; whole_is = refl } }
@@ -178,15 +178,15 @@ module _ (laws : Laws) (below : Below) (m : SuiteData) (d : DecisionsData) (lawf
       (last.client, last.server)
 
   pub client_of : IsPrefix client_units (stream_of sp)
-  client_of = whole_of m d cp sp receive.to_server (of_outcome m d c s w).client_ends client_units client_answers client_rest client_received client_sent client_end a all_brought.0
+  client_of = whole_of m d cp sp receive.to_server (of_outcome m d c s w).client_ends client_units client_answers client_sizes client_rest client_received client_sent client_end a all_brought.0
 
   pub server_of : IsPrefix server_units (stream_of cp)
-  server_of = whole_of m d sp cp receive.to_client (of_outcome m d c s w).server_ends server_units server_answers server_rest server_received server_sent server_end b all_brought.1
+  server_of = whole_of m d sp cp receive.to_client (of_outcome m d c s w).server_ends server_units server_answers server_sizes server_rest server_received server_sent server_end b all_brought.1
 
   pub joined_course : AreInCourse m d c s w (record { units = client_units; answers = client_answers; end = client_end }) (record { units = server_units; answers = server_answers; end = server_end })
   joined_course = record {
     client_in_part = receive.to_server.keeps client_units client_answers client_end client_of a.replies;
     server_in_part = receive.to_client.keeps server_units server_answers server_end server_of b.replies;
-    client_received = received_of_whole laws below m d lawful cp sp receive.to_client server_units server_answers server_rest server_received server_sent server_end b client_units client_rest client_received None a.received to_client server_of;
-    server_received = received_of_whole laws below m d lawful sp cp receive.to_server client_units client_answers client_rest client_received client_sent client_end a server_units server_rest server_received None b.received to_server client_of;
+    client_received = received_of_whole laws below m d lawful cp sp receive.to_client server_units server_answers server_sizes server_rest server_received server_sent server_end b client_units client_sizes client_rest client_received None a.received to_client server_of;
+    server_received = received_of_whole laws below m d lawful sp cp receive.to_server client_units client_answers client_sizes client_rest client_received client_sent client_end a server_units server_sizes server_rest server_received None b.received to_server client_of;
   }

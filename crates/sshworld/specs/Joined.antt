@@ -50,8 +50,8 @@ pub record HaveSessions {S D : Type 0} (meaning : S → SuiteData) (policy : D �
   pub one_suite : of_client.suite ≡ w.suite
   pub same_decisions : of_client.decisions ≡ w.decisions
   pub joined : AreJoined meaning policy w.client_config w.server_config of_client of_server (take w.client.used w.server.sent) w.client.sent (take w.server.used w.client.sent) w.server.sent
-  pub client_session : IsSession (endpoint_setup meaning policy of_client) joined.client_after.units joined.client_after.answers a client
-  pub server_session : IsSession (endpoint_setup meaning policy of_server) joined.server_after.units joined.server_after.answers b server
+  pub client_session : IsSession (endpoint_setup meaning policy of_client) joined.client_after.units joined.client_after.answers joined.client_after.sizes a client
+  pub server_session : IsSession (endpoint_setup meaning policy of_server) joined.server_after.units joined.server_after.answers joined.server_after.sizes b server
   pub client_agreed : agreed_data client.agreed ≡ a
   pub server_agreed : agreed_data server.agreed ≡ b
   pub client_version : client.own_version.items ≡ version_of w.client_config.side

@@ -10,9 +10,9 @@ use Rattle.sshpacket.specs.KeysData.{KeysData}
 use Rattle.sshpacket.specs.Parse.{Refusal, parse_packet, protection, whole}
 use Rattle.sshpacket.specs.Places.{EachPlace}
 use Rattle.sshpacket.specs.PreambleParser.{preamble_parser_by}
-use Rattle.sshpacket.specs.Stream.{IsIncremental, Linked, Parser, Received, ReceivedAll, Same, Sent, Spelled, Units}
+use Rattle.sshpacket.specs.Stream.{IsIncremental, Linked, Parsers, Received, ReceivedAll, Same, Sent, Spelled, Units, sizes_of}
 use Rattle.sshpacket.specs.Suite.{IsLawful, SuiteData}
-use Rattle.sshpacket.specs.Written.{written_clear, written_sealed}
+use Rattle.sshpacket.specs.Written.{sealed_size, written_clear, written_sealed}
 use Rattle.sshcore.specs.Directions.{parsers}
 use Rattle.sshcore.specs.EndpointParts.{ConfigData}
 
@@ -23,15 +23,20 @@ pub record Laws : Type 0 where
   pub sealed : (m : SuiteData) → IsLawful m → (keys : KeysData) (seed : List ℕ) (seq : ℕ) (payload rest : List ℕ) → seq < 2 ^ 32 → IsBytes payload
       → 0 < length payload → length payload ≤ PAYLOAD_LIMIT
       → parse_packet (protection m (Some keys) seq) (written_sealed m keys seed seq payload ++ rest) ≡ whole payload (length (written_sealed m keys seed seq payload))
+  pub size : (m : SuiteData) → IsLawful m → (keys : KeysData) (seed : List ℕ) (seq : ℕ) (payload : List ℕ) → seq < 2 ^ 32 → IsBytes payload
+      → 0 < length payload → length payload ≤ PAYLOAD_LIMIT → length (written_sealed m keys seed seq payload) ≡ sealed_size m keys payload
   -- what is a preamble by the letter is read so by each form
   pub preamble : (form : LineForm) (k : ℕ) (text bytes more : List ℕ) → Preamble k text bytes → preamble_parser_by form k (bytes ++ more) ≡ whole text (length bytes)
-  pub parsers : (m : SuiteData) (role : Side) (party : ConfigData) (units : Units) → IsIncremental (parsers m role party units)
-  pub link : (parsers : Units → Parser) (spells : Units → List ℕ → List ℕ) → ((us : Units) → IsIncremental (parsers us))
-      → (stream received more : List ℕ) (sent us : Units) (rest : List ℕ) (r : Option Refusal)
-      → Sent spells stream sent → EachPlace (Spelled parsers spells) [] sent → stream ≡ received ++ more → Received parsers received us rest r → Linked us sent r
-  pub all : (parsers : Units → Parser) (spells : Units → List ℕ → List ℕ) → ((us : Units) → IsIncremental (parsers us))
-      → (stream : List ℕ) (sent us : Units) (rest : List ℕ) (r : Option Refusal)
-      → Sent spells stream sent → EachPlace (Spelled parsers spells) [] sent → Received parsers stream us rest r → ReceivedAll us sent rest r
-  pub nothing : (parsers : Units → Parser) → ((us : Units) → IsIncremental (parsers us)) → Received parsers [] [] [] None
-  pub one : (parsers : Units → Parser) (stream : List ℕ) (us vs : Units) (x y : List ℕ) (r q : Option Refusal)
-      → Received parsers stream us x r → Received parsers stream vs y q → Same us vs x y r q
+  pub parsers : (m : SuiteData) (role : Side) (party : ConfigData) (units : Units) (sizes : List ℕ) → IsIncremental (parsers m role party units sizes)
+  pub link : (parsers : Parsers) (spells : Units → List ℕ → List ℕ) → ((us : Units) (ns : List ℕ) → IsIncremental (parsers us ns))
+      → (stream received more : List ℕ) (sent us : Units) (ns rest : List ℕ) (r : Option Refusal)
+      → Sent spells stream sent → EachPlace (Spelled parsers spells) [] sent → stream ≡ received ++ more → Received parsers received us ns rest r → Linked us sent r
+  pub sizes : (parsers : Parsers) (spells : Units → List ℕ → List ℕ) → ((us : Units) (ns : List ℕ) → IsIncremental (parsers us ns))
+      → (stream received more : List ℕ) (sent us : Units) (ns rest : List ℕ) (r : Option Refusal)
+      → Sent spells stream sent → EachPlace (Spelled parsers spells) [] sent → stream ≡ received ++ more → Received parsers received us ns rest r → ns ≡ sizes_of spells [] us
+  pub all : (parsers : Parsers) (spells : Units → List ℕ → List ℕ) → ((us : Units) (ns : List ℕ) → IsIncremental (parsers us ns))
+      → (stream : List ℕ) (sent us : Units) (ns rest : List ℕ) (r : Option Refusal)
+      → Sent spells stream sent → EachPlace (Spelled parsers spells) [] sent → Received parsers stream us ns rest r → ReceivedAll us sent rest r
+  pub nothing : (parsers : Parsers) → ((us : Units) (ns : List ℕ) → IsIncremental (parsers us ns)) → Received parsers [] [] [] [] None
+  pub one : (parsers : Parsers) (stream : List ℕ) (us vs : Units) (ns ms x y : List ℕ) (r q : Option Refusal)
+      → Received parsers stream us ns x r → Received parsers stream vs ms y q → Same us vs x y r q

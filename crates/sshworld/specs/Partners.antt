@@ -36,10 +36,11 @@ stream_of p = units_of p.party p.part
 -- An endpoint that stands so has received and sent these bytes: they are such units and answers.
 pub record HasHistory (setup : Setup) (end : EndData) (received_bytes sent_bytes : List ℕ) : Type 0 where
   pub units : Units
+  pub sizes : List ℕ
   pub rest : List ℕ
   pub refusal : Option Refusal
   pub answers : Units
-  pub history : History setup units rest refusal answers end received_bytes sent_bytes
+  pub history : History setup units sizes rest refusal answers end received_bytes sent_bytes
 
 -- what it has received and sent, in units
 abbrev pub told : {setup : Setup} {end : EndData} {h s : List ℕ} → HasHistory setup end h s → Told

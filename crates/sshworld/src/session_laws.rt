@@ -32,8 +32,8 @@ pub fn session_law<S: Suite, D: Decisions>()
         → IsClient client_config → IsServer server_config → AreUnderstood (S.meaning client.suite) (D.policy client.decisions) client_config server_config
         → (j : AreJoined S.meaning D.policy client_config server_config client server client_received client_sent server_received server_sent)
         → (a b : AgreedData) → endpoint_end client ≡ Authenticated a → endpoint_end server ≡ Authenticated b
-        → (one other : Session) → IsSession (endpoint_setup S.meaning D.policy client) j.client_after.units j.client_after.answers a one
-        → IsSession (endpoint_setup S.meaning D.policy server) j.server_after.units j.server_after.answers b other → AreCrosswise one other }
+        → (one other : Session) → IsSession (endpoint_setup S.meaning D.policy client) j.client_after.units j.client_after.answers j.client_after.sizes a one
+        → IsSession (endpoint_setup S.meaning D.policy server) j.server_after.units j.server_after.answers j.server_after.sizes b other → AreCrosswise one other }
     // The two endpoints of a world that ended authenticated are joined so.
     ensures worlds { (w : WorldData S D) (a b : AgreedData) → EachReplies S.meaning D.policy w → w.client.end ≡ Authenticated a → w.server.end ≡ Authenticated b
         → (client : EndpointData S D) × (server : EndpointData S D) × (endpoint_end client ≡ w.client.end) × (endpoint_end server ≡ w.server.end) × (client.suite ≡ w.suite) × (client.decisions ≡ w.decisions)

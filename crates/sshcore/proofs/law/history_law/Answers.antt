@@ -29,8 +29,8 @@ returns c =
       unit = history.unit below streams;
       broken = history.broken;
       breaks = history.breaks below streams;
-      one = λ setup units other_units rest other_rest r other_r answers other_answers end other_end h s t a b.
-          one_by setup units other_units r other_r rest other_rest answers other_answers end other_end h s t
-          (c.stream_law.ensures.one (parsers setup.suite setup.role setup.config) h units other_units rest other_rest r other_r a.received b.received) a b;
+      one = λ setup units other_units sizes other_sizes rest other_rest r other_r answers other_answers end other_end h s t a b.
+          one_by setup units other_units r other_r sizes other_sizes rest other_rest answers other_answers end other_end h s t
+          (c.stream_law.ensures.one (parsers setup.suite setup.role setup.config) h units other_units sizes other_sizes rest other_rest r other_r a.received b.received) a b;
       joined = joined streams;
     }

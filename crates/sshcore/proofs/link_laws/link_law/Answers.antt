@@ -5,7 +5,7 @@ use Rattle.sshpacket.specs.Written.{written}
 use Rattle.sshpacket.specs.Parse.{parse_packet, protection, whole}
 use Rattle.sshpacket.specs.ProtectedPacket.{IsProtectedPacket, PacketMeans}
 use Rattle.sshcore.specs.Linked.{sealed_by}
-use Rattle.sshcore.proofs.PairLemmas.{begins_linked, counts_times, fresh_times, goes_on_linked, opens_linked}
+use Rattle.sshcore.proofs.PairLemmas.{begins_linked, counts_by, fresh_by, goes_on_linked, opens_linked}
 use Rattle.sshcore.proofs.link_laws.link_law.Goals as goal
 
 pub returns-clause-begins : goal.returns-clause-begins
@@ -27,8 +27,11 @@ returns-clause-opens c = λ m law o i l payload rest each can.
 pub returns-clause-goes_on : goal.returns-clause-goes_on
 returns-clause-goes_on c = goes_on_linked
 
+pub returns-clause-size : goal.returns-clause-size
+returns-clause-size c = λ m law o payload low each can. c.writing_law.ensures.size m law o.keys o.seed o.number payload low each can.some can.short
+
 pub returns-clause-counts : goal.returns-clause-counts
-returns-clause-counts c = counts_times
+returns-clause-counts c = counts_by
 
 pub returns-clause-fresh : goal.returns-clause-fresh
-returns-clause-fresh c = fresh_times
+returns-clause-fresh c = fresh_by

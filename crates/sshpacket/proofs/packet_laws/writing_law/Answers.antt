@@ -1,6 +1,6 @@
 use Rattle.std.proofs.Common.{lit≤, true}
 use Rattle.sshpacket.specs.Written.{written}
-use Rattle.sshpacket.proofs.Writings.{IsBytesLaw, clear_again, sealed_again, written_bytes, written_is}
+use Rattle.sshpacket.proofs.Writings.{IsBytesLaw, clear_again, sealed_again, size_is, written_bytes, written_is}
 use Rattle.sshpacket.proofs.packet_laws.writing_law.Goals as goal
 
 bytes : (c : goal.After-bytes_law) → IsBytesLaw
@@ -21,5 +21,11 @@ pub returns-clause-sealed : goal.returns-clause-sealed
 returns-clause-sealed c = λ m law keys seed seq payload rest low each some short.
     sealed_again c.types_law.ensures.uint32 m law keys seq payload (written m (m.counts_length keys.cipher keys.mac) (m.block keys.cipher) seed seq payload) rest low
     (written_bytes (bytes c) m law (m.counts_length keys.cipher keys.mac) (m.block keys.cipher) seed seq payload (law.block_high keys.cipher) each)
+    (written_is m law (m.counts_length keys.cipher keys.mac) (m.block keys.cipher) (m.tag_len keys.cipher keys.mac) seed seq payload (law.block_high keys.cipher)
+    (law.tag_high keys.cipher keys.mac) some short).spells
+
+pub returns-clause-size : goal.returns-clause-size
+returns-clause-size c = λ m law keys seed seq payload low each some short.
+    size_is (bytes c) m law keys seed seq payload low each
     (written_is m law (m.counts_length keys.cipher keys.mac) (m.block keys.cipher) (m.tag_len keys.cipher keys.mac) seed seq payload (law.block_high keys.cipher)
     (law.tag_high keys.cipher keys.mac) some short).spells

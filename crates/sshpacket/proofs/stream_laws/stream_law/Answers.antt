@@ -1,4 +1,4 @@
-use Rattle.sshpacket.proofs.Streams.{link, link_all, one_reading, read_more, read_push, received_front, received_more, received_none, received_part, received_push, received_refusal, received_unit, sent_append, sent_push, sent_received, sent_same}
+use Rattle.sshpacket.proofs.Streams.{link, link_all, link_sizes, one_reading, read_more, read_push, received_front, received_more, received_none, received_part, received_push, received_refusal, received_unit, sent_append, sent_push, sent_received, sent_same}
 use Rattle.sshpacket.proofs.stream_laws.stream_law.Goals as goal
 
 pub returns-clause-one : goal.returns-clause-one
@@ -36,6 +36,9 @@ returns-clause-link c = λ parsers spells each. link parsers each spells
 
 pub returns-clause-again : goal.returns-clause-again
 returns-clause-again c = λ parsers spells each. sent_received parsers each spells
+
+pub returns-clause-sizes : goal.returns-clause-sizes
+returns-clause-sizes c = λ parsers spells each. link_sizes parsers each spells
 
 pub returns-clause-all : goal.returns-clause-all
 returns-clause-all c = λ parsers spells each. link_all parsers each spells

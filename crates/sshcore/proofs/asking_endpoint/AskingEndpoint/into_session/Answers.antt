@@ -23,7 +23,7 @@ returns-clause-session g c =
     let packets = packets_at below setup kept p.reader p.earlier s x a is in
     let end = authenticated_at c.self.inside.state.end a is in
     let at = sym unread.0 ∙ packets.1 in
-    let told = session_is setup x.units x.answers x.rest (packet_reader_data packets.0) kept.sending
+    let told = session_is setup x.units x.answers x.sizes x.rest (packet_reader_data packets.0) kept.sending
     (hands_over below setup kept p.reader packets.0 packets.1 p.earlier s x a is) (none_left below setup kept p.reader p.earlier s x a is)
     end.0 a (ap end_data (sym end.1) ∙ is)
     c.self.inside.state.own_version c.self.inside.state.version c.self.inside.state.host_key c.accepted_by-accepted.result

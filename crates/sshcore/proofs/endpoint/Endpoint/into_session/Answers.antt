@@ -16,7 +16,7 @@ returns-clause-session g c =
     rw (← c.self.view_is) (λ h s p a is.
     let packets = packets_at below setup kept i h s p a is in
     let end = authenticated_at c.self.inside.state.end a is in
-    session_is setup p.units p.answers p.rest (packet_reader_data packets.0) kept.sending
+    session_is setup p.units p.answers p.sizes p.rest (packet_reader_data packets.0) kept.sending
     (hands_over below setup kept i packets.0 packets.1 h s p a is) (none_left below setup kept i h s p a is)
     end.0 a (ap end_data (sym end.1) ∙ is)
     c.self.inside.state.own_version c.self.inside.state.version c.self.inside.state.host_key c.accepted_by-accepted.result

@@ -18,6 +18,12 @@ unknown_algorithm-requires-clause-to_server g c = (server_named c.parts-parts.re
 pub unknown_algorithm-requires-clause-to_client : goal.unknown_algorithm-requires-clause-to_client
 unknown_algorithm-requires-clause-to_client g c = (server_named c.parts-parts.result.now c.args.self.now c.parts-parts.ensures.same c.parts-parts.ensures.accepted).3
 
+pub unknown_algorithm-requires-clause-mac_to_server : goal.unknown_algorithm-requires-clause-mac_to_server
+unknown_algorithm-requires-clause-mac_to_server g c = (server_named c.parts-parts.result.now c.args.self.now c.parts-parts.ensures.same c.parts-parts.ensures.accepted).4
+
+pub unknown_algorithm-requires-clause-mac_to_client : goal.unknown_algorithm-requires-clause-mac_to_client
+unknown_algorithm-requires-clause-mac_to_client g c = (server_named c.parts-parts.result.now c.args.self.now c.parts-parts.ensures.same c.parts-parts.ensures.accepted).5
+
 pub returns-in-Some-clause-refusal : goal.returns-in-Some-clause-refusal
 returns-in-Some-clause-refusal g c = server_judged (g.S.Suite.meaning c.args.suite.now) (g.S.Inventory.inventory c.args.suite.now) c.parts-parts.result.now c.args.self.now (option_map suite_fault_data c.unknown_host_key-host_keys.result) (Some (suite_fault_data c.in-Some.fault)) c.parts-parts.ensures.same (c.unknown_host_key-host_keys.ensures ∙ ap (λ xs. suite_refusal (g.S.Suite.meaning c.args.suite.now) (g.S.Inventory.inventory c.args.suite.now) (named_in algorithms.HostKey (key_algorithms (map host_key_data xs)))) c.deref.ensures.value) c.in-Some.ensures
 
