@@ -37,6 +37,7 @@ def rows(file):
     aes_gcm.wrong_going(file)
     aes_ctr.wrong_going(file)
     deployed_names(file)
+    checks(file)
     unjudged(file, t)
 
 
@@ -313,6 +314,25 @@ def deployed_names(file):
             ("lacks aes128-gcm", (ctr, "aes128-gcm@openssh.com"), (mac, mac), lacks("aes128-gcm@openssh.com", "encryption_algorithms_server_to_client"))):
         lines = ["%s '%s" % pair for pair in zip(("kex", "hostkeys", "cipher_cs", "cipher_sc", "mac_cs", "mac_sc"), ("curve25519-sha256", "ssh-ed25519", *ciphers, *macs))]
         file.row("the suite of deployed algorithms %s" % name, "config client", lines, "named " + verdict)
+
+
+def checks(file):
+    """Checks that an endpoint of the project doesn't keep, and those that nobody can play."""
+    server, name = "conform server strict", "check strict/ignore-newkeys"
+    head = ["about IGNORE between the share and NEWKEYS", "asked MUST OpenSSH PROTOCOL 1.10: terminate the connection"]
+    acts = ["play version kexinit init reply", "put 02 +'x", "play newkeys service auth"]
+    file.row("a check expects what isn't done", server, name, head, "expect goes_on", acts)
+    file.row("a check has other words for our own", server, name, head, "expect ends", "ours strict goes_on", acts)
+    file.row("a check without a verdict", server, name, head, acts)
+    file.row("a check without an act", server, name, head, "expect ends")
+    file.row("a check with an act that nobody knows", server, name, head, "expect ends", "sing 02", acts)
+    file.row("a check with bytes that nobody named", server, name, head, "expect ends", "raw $nothing", acts)
+    file.row("a check with a number that it doesn't send", server + " 2", name, head, "expect ends", acts)
+    file.row("a check of the sweep without a number", server, "check sweep/kexinit", head, "expect table", "play version kexinit", "put $number")
+    file.row("a check of the sweep with a number above 255", server + " 256", "check sweep/kexinit", head, "expect table", "play version kexinit", "put $number")
+    file.row("a check at a place that the sweep hasn't", server + " 2", name, head, "expect table", acts)
+    file.row("a check of nobody", "conform nobody strict", name, head, "expect ends", acts)
+    file.row("a check by no reading", "conform server lax", name, head, "expect ends", acts)
 
 
 def unjudged(file, t):

@@ -8,6 +8,7 @@ use sshrows_acts::{
     Generous, Line, Names, Row, Stop, Way, judge_config, judge_endpoint, judge_waiting,
     nothing_after, same_text, shows, signing_of, split_word, wrong,
 };
+use sshrows_checks::judge_check;
 use sshsuite::DeployedSuite;
 use sshsuites::LabSuite;
 use std::alloc::Global;
@@ -27,6 +28,9 @@ pub(crate) fn act(
     let (word, role) = line.head();
     if word == "config" {
         return judge_config(alloc, names, line, role, rest, way);
+    }
+    if word == "conform" {
+        return judge_check(alloc, line, role, rest);
     }
     match scenario_of(alloc, row, text)? {
         Ok(scenario) => act_by(alloc, names, line, &scenario, rest, way),

@@ -1,0 +1,4 @@
+-- What checks say.
+
+pub mod Expected
+pub mod Verdicts

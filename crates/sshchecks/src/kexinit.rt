@@ -1,0 +1,104 @@
+//! The own KEXINIT, as the acts bend it.
+
+use crate::agreement::LISTS;
+use crate::fault::PlayFault;
+use crate::settings::Setting;
+use crate::terms::put_text;
+use sshmsg::SSH_MSG_KEXINIT;
+use sshneg::{Side, strict_marker};
+use std::alloc::Global;
+
+/// The methods of the own KEXINIT.
+pub(crate) const METHODS: &str = "curve25519-sha256,curve25519-sha256@libssh.org";
+
+/// What the own KEXINIT has.
+#[derive(Drop)]
+pub(crate) struct OwnLists {
+    /// Whether the own marker is offered.
+    plain: bool,
+    /// What acts have put in place of lists.
+    bent: Vec<Option<Vec<u8>>>,
+    /// What stands after them.
+    tail: Vec<u8>,
+}
+
+impl OwnLists {
+    /// An ordinary one's.
+    pub(crate) fn new<'a>(alloc: Global) -> Result<OwnLists, PlayFault<'a>> {
+        let mut bent = Vec::new(alloc);
+        for _ in 0..LISTS {
+            bent.push(None)?;
+        }
+        let tail = Vec::from_slice(alloc, &[0u8; 5])?;
+        Ok(OwnLists {
+            plain: false,
+            bent,
+            tail,
+        })
+    }
+
+    /// Offers no marker.
+    pub(crate) fn offer_plain(&mut self) {
+        self.plain = true;
+    }
+
+    /// Puts bytes in the place of what stands after the lists.
+    pub(crate) fn set_tail(&mut self, bytes: Vec<u8>) {
+        self.tail = bytes;
+    }
+
+    /// Puts bytes in the place of a list.
+    pub(crate) fn set(&mut self, place: usize, bytes: Vec<u8>) {
+        if let Some(list) = self.bent.get_mut(place) {
+            *list = Some(bytes);
+        }
+    }
+
+    /// The payload.
+    pub(crate) fn payload<'a>(
+        &self,
+        alloc: Global,
+        side: Side,
+        setting: &Setting<'_>,
+    ) -> Result<Vec<u8>, PlayFault<'a>> {
+        let mut out = Vec::new(alloc);
+        out.push(SSH_MSG_KEXINIT)?;
+        out.extend_from_slice(setting.cookie())?;
+        for (place, bent) in self.bent.iter().enumerate() {
+            match bent {
+                Some(list) => put_text(&mut out, list)?,
+                None => {
+                    let list = self.ordinary(alloc, side, setting, place)?;
+                    put_text(&mut out, &list)?;
+                }
+            }
+        }
+        out.extend_from_slice(&self.tail)?;
+        Ok(out)
+    }
+
+    /// The list that an ordinary one has at a place.
+    fn ordinary<'a>(
+        &self,
+        alloc: Global,
+        side: Side,
+        setting: &Setting<'_>,
+        place: usize,
+    ) -> Result<Vec<u8>, PlayFault<'a>> {
+        let mut list = Vec::new(alloc);
+        let text = match place {
+            0 => METHODS,
+            1 => "ssh-ed25519",
+            2 | 3 => setting.ciphers,
+            4 | 5 => setting.macs,
+            6 | 7 => "none",
+            _ => "",
+        };
+        list.extend_from_slice(text.as_bytes())?;
+        if place == 0 && !self.plain {
+            list.push(b',')?;
+            list.extend_from_slice(strict_marker(side).as_bytes())?;
+        }
+        Ok(list)
+    }
+}

@@ -1,0 +1,76 @@
+//! What this side proves itself by, and its random bytes.
+
+use crate::fault::{Fault, KeyFault};
+use crate::files::{bytes_of, first_line, is_private, text_in};
+use crate::settings::Settings;
+use sshchecks::Setting;
+use sshidentity::identity_in;
+use std::random::RandomSource;
+
+/// How many random bytes a player takes.
+const DRAWN: usize = 128;
+
+/// What this side has: its secrets, and what the words say of it.
+#[derive(Drop)]
+pub(crate) struct Own {
+    /// The private key of ssh-ed25519, the 32 bytes of RFC 8032 section 5.1.5.
+    pub(crate) key: Vec<u8>,
+    /// The password, empty where there is none.
+    pub(crate) password: Vec<u8>,
+    pub(crate) random: [u8; DRAWN],
+    pub(crate) user: String,
+    pub(crate) ciphers: String,
+    pub(crate) macs: String,
+}
+
+impl Own {
+    /// What a player is given, by which it sends this number in a check of the sweep.
+    pub(crate) fn setting(&self, number: u8) -> Setting<'_> {
+        Setting {
+            user: &self.user,
+            password: &self.password,
+            own_key: &self.key,
+            random: &self.random,
+            ciphers: &self.ciphers,
+            macs: &self.macs,
+            number,
+        }
+    }
+}
+
+/// Reads the files of the key and of the password, and draws random bytes of the system.
+pub(crate) fn read_own(rt: &HostRuntime, settings: &Settings<'_>) -> Result<Own, Fault> {
+    let key = key_in(rt, settings.key_option, settings.key)?;
+    let password = match settings.password_file {
+        Some(path) => first_line(rt, "password-file", path)?,
+        None => Vec::new(rt.alloc()),
+    };
+    Ok(Own {
+        key,
+        password,
+        random: random(rt)?,
+        user: String::from_str(rt.alloc(), settings.user)?,
+        ciphers: String::from_str(rt.alloc(), settings.ciphers)?,
+        macs: String::from_str(rt.alloc(), settings.macs)?,
+    })
+}
+
+/// The private key in the file that the option names.
+fn key_in(rt: &HostRuntime, option: &'static str, path: &str) -> Result<Vec<u8>, Fault> {
+    let file = bytes_of(rt, option, path)?;
+    let text = text_in(option, &file)?;
+    match identity_in(rt.alloc(), text)? {
+        Ok(key) if is_private(rt, option, path)? => Ok(key),
+        Ok(_) => Err(Fault::Key(option, KeyFault::Readable)),
+        Err(fault) => Err(Fault::Key(option, KeyFault::Identity(fault))),
+    }
+}
+
+/// Random bytes, from the system's random source.
+fn random<const N: usize>(rt: &HostRuntime) -> Result<[u8; N], Fault> {
+    let mut bytes = [0; N];
+    match rt.fill_bytes(&mut bytes) {
+        Ok(()) => Ok(bytes),
+        Err(_) => Err(Fault::Random),
+    }
+}
