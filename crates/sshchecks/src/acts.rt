@@ -4,6 +4,7 @@ use crate::bends::{Bend, bend_of};
 use crate::fault::CheckFault;
 use crate::look::{Look, look_of};
 use crate::steps::{Step, steps_of};
+use crate::terms::byte_of;
 use sshneg::Side;
 
 /// How often a line may be played at most.
@@ -315,18 +316,7 @@ fn mask_of(word: &str) -> Option<u8> {
     if digits.len() != 2 {
         return None;
     }
-    let high = digit_of(digits.first().copied()?)?;
-    let low = digit_of(digits.get(1).copied()?)?;
-    Some((high << 4) | low)
-}
-
-/// What a hexadecimal digit means.
-fn digit_of(digit: u8) -> Option<u8> {
-    match digit {
-        b'0'..=b'9' => Some(digit - b'0'),
-        b'a'..=b'f' => Some(digit - b'a' + 10),
-        _ => None,
-    }
+    byte_of(digits)
 }
 
 /// A place that a word names.
