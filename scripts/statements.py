@@ -1,4 +1,4 @@
-"""The statements of specs/ and src/, and which of them each one names, as `claims` prints them.
+"""The statements of specs/ and src/, which of them each one names, and the clauses of functions, as scripts/pages reads them.
 
 A statement is a definition of specs/, or an item of src/ that a definition or a signature names: a type with what contracts
 see of it, a constant, or a trait with its ghost members. A name is found as the prover finds it, by the `use` lines of its
@@ -11,17 +11,32 @@ import re
 
 # A word that is no field: after no dot. It may have parts after dots of its own.
 WORD = re.compile(r'(?<![^\s(){}\[\],;:])[^\s(){}\[\],;:"]+')
-START = re.compile(r'(?:(?:abbrev|unfoldable|foldable|irreducible|opaque)\s+)?(?:pub\s+(?:(record|data|abbrev|unfoldable)\s+)?|(?=[^\s:({]+ : ))([^\s:({]+)')
+START = re.compile(r'(?:(?P<how>abbrev|unfoldable|foldable|irreducible|opaque)\s+)?'
+                   r'(?:(?P<public>pub)\s+(?:(?P<kind>record|data|abbrev|unfoldable)\s+)?|(?=[^\s:({]+ : ))(?P<name>[^\s:({]+)')
 USE = re.compile(r'\s*(?:ghost )?use (Rattle\.[^\s;{]+?)(?:\.\{([^}]*)\})?(?: as (\w+))?;?\s*$')
 RUST_USE = re.compile(r'^use (\w+)((?:::\w+)*)(?:::\{([^}]*)\})?;', re.M)
 # words of the language
 OF_LANGUAGE = set('λ let in if then else do record module where pub data abbrev unfoldable Type Unit ghost requires ensures'.split())
 BINDERS = [re.compile(r'λ((?:\s+[^\s(){}.]+)+)\.'), re.compile(r'[({]((?:[^\s(){}:]+\s+)*[^\s(){}:]+)\s+:(?=\s)'),
            re.compile(r'\blet\s+(\S+)\s+='), re.compile(r'(?:^|[\s;{])(\w+) ←')]
+# how a head ends that no clause follows, and what stands after another: a clause, a comment before one, a body
+LAST = re.compile(r'(?:[{;]|\{.*\})\s*$')
+AFTER_HEAD = re.compile(r'\s*(requires|ensures)\b|\s*//|\s*\{')
+CLAUSE = re.compile(r'\s*(requires|ensures\*?)\s*(\w*)\s*\{')
+PUBLIC_FUNCTION = re.compile(r'\s*pub (?:unsafe )?(?:extern "C" )?fn (\w+)')
+# who has ghost members that the public sees, and such a member
+OPEN = re.compile(r'(?:pub (trait)|impl(?:<.*?>)? (Model|Suite) for) (\w+)')
+MEMBER = re.compile(r'\s+ghost (\w+)(?::| =) *\{')
+SEEN = {'Model': ('Value', 'view', 'invariant'), 'Suite': ('meaning',)}
 
 
 class Wrong(Exception):
     """Why a source can't be read so, or what isn't there."""
+
+
+def uncommented(text):
+    """The text of a source without its comments; attributes stay."""
+    return re.sub(r'//.*', '', text)
 
 
 def without_comments(lines):
@@ -47,8 +62,8 @@ def imports_of(lines):
 class Statement:
     """A definition or an item, word for word, with the place where it stands."""
 
-    def __init__(self, file, name, line, comment, lines, head=None, after=None):
-        self.file, self.name, self.line, self.comment, self.lines = file, name, line, comment, lines
+    def __init__(self, file, name, comment, lines, head=None, after=None):
+        self.file, self.name, self.comment, self.lines = file, name, comment, lines
         # the parameters that stand in front of it, and the definition whose comment is its own too
         self.head, self.after = head, after
 
@@ -68,11 +83,12 @@ class Spec:
         with open(f'{root}/crates/{path}', encoding='utf-8') as file:
             self.lines = file.read().rstrip('\n').split('\n')
         self.imports, self.aliases = imports_of(self.lines)
-        self.found, self.owner = {}, {}
+        # what of it a row of a page may tell, {name: (line, kind)}
+        self.found, self.owner, self.public = {}, {}, {}
         self.read()
 
     def read(self):
-        comment, begun, head, level, above, current = [], None, None, 0, None, None
+        comment, head, level, above, current, kind = [], None, 0, None, None, ''
         for number, line in enumerate(self.lines, 1):
             text, indent = line.strip(), len(line) - len(line.lstrip())
             if line.startswith('module '):
@@ -83,21 +99,24 @@ class Spec:
             if not text:
                 if current:
                     current.lines.append(line)
-                comment, begun = [], None
+                comment = []
             elif indent == level and text.startswith('--'):
                 if indent == 0:
                     head = None
-                comment, current, begun = comment + [line[level:]], None, begun or number
-            elif indent == level and (m := START.match(text)) and m[2] not in ('mod', 'use'):
-                current = Statement(self, m[2], begun or number, comment, [line[level:]], head, None if comment else above)
+                comment, current = comment + [line[level:]], None
+            elif indent == level and (m := START.match(text)) and m['name'] not in ('mod', 'use'):
+                current = Statement(self, m['name'], comment, [line[level:]], head, None if comment else above)
                 above = current if comment else above
-                self.found[m[2]] = current
-                is_data = m[1] == 'data'
-                comment, begun = [], None
+                self.found[m['name']] = current
+                kind = m['how'] if m['how'] in ('abbrev', 'unfoldable') else m['kind'] or ''
+                if m['public']:
+                    self.public.setdefault(m['name'], (number, kind))
+                comment = []
             elif current and not re.match(r'use |pub mod |infix', text):
                 current.lines.append(line[level:])
-                if is_data and (m := re.match(r'\s+(?:pub )?([^\s:]+)\s*:', line)):
+                if kind == 'data' and (m := re.match(r'\s+(?:pub )?([^\s:]+)\s*:', line)):
                     self.owner.setdefault(m[1], current)
+                    self.public.setdefault(m[1], (number, f'case of {current.name}'))
             elif not re.match(r'use |pub mod |infix', text):
                 raise Wrong(f'{self.path}:{number}: this belongs to no definition: {text}')
         for it in self.found.values():
@@ -168,7 +187,7 @@ class Source:
         """The last line of the item that begins at this one."""
         depth, seen = 0, False
         for at in range(start, len(self.lines)):
-            code = re.sub(r'//.*', '', self.lines[at])
+            code = uncommented(self.lines[at])
             depth += code.count('{') - code.count('}')
             seen = seen or '{' in code
             if depth == 0 and (seen or code.rstrip().endswith(';')):
@@ -195,7 +214,7 @@ class Source:
         if re.search(r'\btrait ', self.lines[at]):
             lines = self.trait_of(begin, at, end)
         lines = lines + self.view_of(name)
-        return Statement(self, name, begin + 1, [], lines)
+        return Statement(self, name, [], lines)
 
     def trait_of(self, begin, head, end):
         """A trait with its ghost members; its functions are told, not copied."""
@@ -222,7 +241,7 @@ class Source:
     def names(self, it, book):
         """What an item names: where contracts see another thing than its fields, what that is; else the types of its
         fields. What always holds of them (a `ghost` member of a struct) says nothing more."""
-        text = '\n'.join(re.sub(r'//.*', '', x) for x in it.lines)
+        text = uncommented('\n'.join(it.lines))
         fields, _, view = text.partition('\nimpl')
         if not view and not re.search(r'\btrait ', text):
             fields = re.sub(r'ghost \w+: \{.*?\},', '', fields, flags=re.S)
@@ -232,6 +251,35 @@ class Source:
         supers = book.types(re.search(r'trait \w+([^{]*)', text)[1], self, it.name) if not view else []
         ghost = view or '\n'.join(re.findall(r'ghost [^\n]*', text))
         return supers + book.resolve(ghost, own, self.aliases, None, bound_by(ghost))
+
+    def public_clauses(self):
+        """What the public sees claimed here: (item, kind, name, text) of each clause of a public function and of a public
+        trait's functions, and of each ghost member that a contract of another may name."""
+        trait, end = None, -1
+        for at, line in enumerate(self.lines):
+            if m := OPEN.match(line):
+                end = self.end_of(at)
+                trait = m[3] if m[1] else None
+                yield from self.members(m, at, end)
+            own = trait if at <= end else None
+            head = re.match(r'\s+fn (\w+)', line) if own else PUBLIC_FUNCTION.match(line)
+            if head:
+                for kind, name, lines in Function(self, at, head[1]).clauses:
+                    yield f'{own}::{head[1]}' if own else head[1], kind.rstrip('*'), name, inner(lines)
+
+    def members(self, opened, at, end):
+        """The ghost members of a trait, a model or a suite that begins at a line."""
+        seen = SEEN.get(opened[2])
+        for begin in range(at, end):
+            m = MEMBER.match(self.lines[begin])
+            if m and (not seen or m[1] in seen):
+                yield opened[3], 'ghost', m[1], inner(self.lines[begin:self.end_of(begin) + 1])
+
+
+def inner(lines):
+    """What stands between the outer braces of some lines."""
+    text = uncommented('\n'.join(lines))
+    return text[text.index('{') + 1:text.rindex('}')]
 
 
 class Book:
@@ -306,45 +354,48 @@ class Book:
         return found
 
     def function(self, path, name):
-        return Function(self, path, name)
+        """A public function of a file, by its name after that of its type."""
+        source, owner = self.open(path), name.rpartition('::')[0]
+        if not source:
+            raise Wrong(f'there is no file crates/{path}')
+        lines, inside = source.lines, range(len(source.lines))
+        if owner:
+            at = next((at for at, x in enumerate(lines) if re.match(rf'impl(?:<.*?>)? {owner}\b', x)), None)
+            inside = range(at, source.end_of(at)) if at is not None else range(0)
+        head = next((at for at in inside if re.match(rf'\s*pub fn {name.split("::")[-1]}\b', lines[at])), None)
+        if head is None:
+            raise Wrong(f'crates/{path} has no public function {name}')
+        return Function(source, head, name)
 
 
 class Function:
-    """A public function: its comment, its head and its clauses, word for word."""
+    """A function: its comment, its head and its clauses, word for word."""
 
-    def __init__(self, book, path, name):
-        self.source, self.name = book.open(path), name
-        if not self.source:
-            raise Wrong(f'there is no file crates/{path}')
-        lines, last = self.source.lines, name.split('::')[-1]
-        self.owner = name.split('::')[0] if '::' in name else None
-        inside = range(len(lines))
-        if self.owner:
-            at = next((at for at, x in enumerate(lines) if re.match(rf'impl(?:<.*?>)? {self.owner}\b', x)), None)
-            inside = range(at, self.source.end_of(at)) if at is not None else range(0)
-        head = next((at for at in inside if re.match(rf'\s*pub fn {last}\b', lines[at])), None)
-        if head is None:
-            raise Wrong(f'crates/{path} has no public function {name}')
-        self.line = head + 1
-        self.comment = [x for x in lines[self.source.begin_of(head):head] if '///' in x]
-        self.head, at = [], head
-        while not re.match(r'\s*(requires|ensures)\b|\s*//|\s*\{\}?\s*$', lines[at]):
-            self.head.append(lines[at])
+    def __init__(self, source, at, name):
+        self.source, self.name, self.owner, self.line = source, name, name.rpartition('::')[0], at + 1
+        lines = source.lines
+        self.comment = [x for x in lines[source.begin_of(at):at] if '///' in x]
+        self.head, self.clauses = [lines[at]], []
+        while not LAST.search(uncommented(lines[at])) and not AFTER_HEAD.match(lines[at + 1]):
             at += 1
-        self.clauses, note = [], []
-        while lines[at].strip() not in ('{', '{}'):
+            self.head.append(lines[at])
+        if not LAST.search(uncommented(lines[at])):
+            self.read_clauses(lines, at)
+
+    def read_clauses(self, lines, at):
+        """The clauses after a line, each with the comments above it; a trait's function has a `;` after its last."""
+        note = []
+        while not uncommented(lines[at]).rstrip().endswith(';') and not re.match(r'\s*\{', lines[at + 1]):
+            at += 1
             block, depth = [lines[at]], lines[at].count('{') - lines[at].count('}')
             while depth > 0:
                 at += 1
                 block.append(lines[at])
                 depth += lines[at].count('{') - lines[at].count('}')
-            m = re.match(r'\s*(requires|ensures\*?)\s*(\w*)\s*\{', block[0])
+            m = CLAUSE.match(block[0])
             if m:
                 self.clauses.append((m[1], m[2], note + block))
-                note = []
-            else:
-                note = note + block
-            at += 1
+            note = [] if m else note + block
 
     def chosen(self, wanted):
         """The conditions and these clauses, and the names of the others. A clause without a name is `-`."""
@@ -365,12 +416,12 @@ class Function:
     def names(self, wanted, book):
         """What these clauses name."""
         taken, _ = self.chosen(wanted)
-        text = '\n'.join(re.sub(r'//.*', '', line) for it in taken for line in it[2])
+        text = uncommented('\n'.join(line for it in taken for line in it[2]))
         return book.resolve(text, self.source.imports, self.source.aliases, None, bound_by(text))
 
     def types(self, book):
         """The types and traits of its head, its own first."""
-        return book.types((self.owner or '') + ' ' + '\n'.join(self.bounds() + self.head), self.source)
+        return book.types(self.owner + ' ' + '\n'.join(self.bounds() + self.head), self.source)
 
     def bounds(self):
         """The head of the `impl` that it stands in."""

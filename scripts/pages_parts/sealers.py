@@ -1,18 +1,13 @@
-#!/usr/bin/env python3
 """Shows that whoever seals packets one after another goes on to the keys of the next one.
-
-    scripts/sealers
 
 `write_sealed` (sshpacket) seals one packet and leaves the keys as they are: a second packet by the same keys may have the key stream of
 the first. `write_next` makes the keys those of the next packet. So no source names `write_sealed` but those of ALLOWED, of which each
-has to name it. The last line is 'N passed, M failed', by sources; the status is 0 only where nothing failed.
+has to name it. Sources are counted.
 """
-import glob
-import os
 import re
-import sys
 
-ROOT = os.path.dirname(os.path.dirname(os.path.abspath(__file__)))
+from pages_parts import found, read
+
 NAME = re.compile(r'\bwrite_sealed\b')
 # a source's path, and why it may
 ALLOWED = {
@@ -24,19 +19,12 @@ ALLOWED = {
 }
 
 
-def main():
-    passed = failed = 0
-    for path in sorted(glob.glob(f'{ROOT}/crates/*/src/**/*.rt', recursive=True)):
-        name = os.path.relpath(path, ROOT)
-        with open(path, encoding='utf-8') as file:
-            found = bool(NAME.search(file.read()))
-        if found == (name in ALLOWED):
+def judged(*_):
+    passed, faults = 0, []
+    for path in found('crates/*/src/**/*.rt'):
+        is_named = bool(NAME.search(read(path)))
+        if is_named == (path in ALLOWED):
             passed += 1
-            continue
-        failed += 1
-        print(f'FAULT {name} ' + ('names write_sealed' if found else 'names write_sealed no longer'))
-    print(f'{passed} passed, {failed} failed')
-    sys.exit(1 if failed else 0)
-
-
-main()
+        else:
+            faults.append(f'FAULT {path} names write_sealed' + ('' if is_named else ' no longer'))
+    return faults, passed, len(faults)

@@ -1,4 +1,4 @@
-// The program that scripts/bench_peers runs beside ours: golang.org/x/crypto/ssh authenticates so many pairs of a client and a
+// The program that tools/bench_peers runs beside ours: golang.org/x/crypto/ssh authenticates so many pairs of a client and a
 // server in one process, by curve25519-sha256, ssh-ed25519, chacha20-poly1305@openssh.com and a password. Between them stands a
 // pipe that holds what is written: with net.Pipe, whose writes wait for a reader, both would wait for each other's version line.
 package main

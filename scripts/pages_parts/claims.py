@@ -1,25 +1,18 @@
-#!/usr/bin/env python3
 """Writes the claim pages, docs/claims/NAME.md, from the sources: each has the public clauses that promise something, and
 every definition on which they rest, word for word.
-
-    scripts/claims [--write]
 
 After the clauses come the parts of a page: what the clauses themselves say, then what stands below that, put off by PAGES.
 Within a part the layers stand from the top to the bottom, and in a layer each definition where a reader first meets its name.
 None stands twice on a page. What a name leads to tells scripts/statements.py.
 
-Without a word nothing is written: each page has to be what would be written now, no other page may stand in docs/claims, and
-docs/AUDIT.md has to link each. The last line is 'N passed, M failed', the status 0 only where nothing failed.
+Each page has to be what would be written now, no other page may stand in docs/claims, and docs/AUDIT.md has to link each. Pages are
+counted.
 """
-import glob
 import os
-import sys
 
-sys.dont_write_bytecode = True
-sys.path.insert(0, os.path.dirname(os.path.abspath(__file__)))
-from statements import Book, Wrong
+from pages_parts import ROOT, found, read, write_to
+from statements import Wrong
 
-ROOT = os.path.dirname(os.path.dirname(os.path.abspath(__file__)))
 LAYERS = {
     'sshpromises': 'what a user may conclude',
     'sshworld': 'two endpoints and the bytes between them',
@@ -236,7 +229,7 @@ def written(book, page):
            'word for word. Nothing else has to be read to know what is promised, but the notation, which '
            '[DEFINITIONS.md](../DEFINITIONS.md#notation) explains, with most of these definitions in plain words. In each part the layers stand from the top to the bottom, '
            'and in a layer each definition where a reader first comes to its name. '
-           'The page is written by `scripts/claims --write`; [AUDIT.md](../AUDIT.md) tells what would be possible if a statement were wrong.', '']
+           'The page is written by `scripts/pages --write claims`; [AUDIT.md](../AUDIT.md) tells what would be possible if a statement were wrong.', '']
     out += ['| Part | Definitions | Lines |', '|---|---|---|']
     out += [f'| [{heading}]({anchor(heading)}) | {len(order)} | {lines_of(order)} |' for heading, _, order in parts]
     out += ['', '## The clauses', '', *clauses_of(functions)]
@@ -259,34 +252,27 @@ def written(book, page):
     return '\n'.join(out) + '\n'
 
 
-def main():
-    if sys.argv[1:] not in ([], ['--write']):
-        sys.exit(__doc__)
-    book, passed, faults = Book(ROOT), 0, []
-    with open(f'{ROOT}/docs/AUDIT.md', encoding='utf-8') as file:
-        audit = file.read()
+def faults_of(book, name, page, write):
+    """What is wrong with a page."""
+    path = f'docs/claims/{name}.md'
+    try:
+        text = written(book, page)
+    except Wrong as why:
+        return [f'{path} can\'t be written: {why}']
+    if write:
+        os.makedirs(f'{ROOT}/docs/claims', exist_ok=True)
+        write_to(path, text)
+    old = read(path) if os.path.exists(f'{ROOT}/{path}') else None
+    wrong = [f'{path} isn\'t current: scripts/pages --write claims'] if old != text else []
+    return wrong + ([f'docs/AUDIT.md has no link to claims/{name}.md'] if f'(claims/{name}.md)' not in read('docs/AUDIT.md') else [])
+
+
+def judged(book, write):
+    faults, passed = [], 0
     for name, page in PAGES.items():
-        path = f'{ROOT}/docs/claims/{name}.md'
-        try:
-            text = written(book, page)
-        except Wrong as why:
-            faults.append(f'docs/claims/{name}.md can\'t be written: {why}')
-            continue
-        if sys.argv[1:]:
-            os.makedirs(os.path.dirname(path), exist_ok=True)
-            with open(path, 'w', encoding='utf-8') as file:
-                file.write(text)
-        old = open(path, encoding='utf-8').read() if os.path.exists(path) else None
-        wrong = [f'docs/claims/{name}.md isn\'t current: scripts/claims --write'] if old != text else []
-        wrong += [f'docs/AUDIT.md has no link to claims/{name}.md'] if f'(claims/{name}.md)' not in audit else []
+        wrong = faults_of(book, name, page, write)
         faults += wrong
         passed += not wrong
-    others = {os.path.basename(x)[:-3] for x in glob.glob(f'{ROOT}/docs/claims/*')} - set(PAGES)
+    others = {os.path.basename(x)[:-3] for x in found('docs/claims/*')} - set(PAGES)
     faults += [f'docs/claims has a page that nothing writes: {x}' for x in sorted(others)]
-    for it in faults:
-        print('FAULT', it)
-    print(f'{passed} passed, {len(faults)} failed')
-    return 1 if faults else 0
-
-
-sys.exit(main())
+    return [f'FAULT {it}' for it in faults], passed, len(faults)

@@ -1,4 +1,4 @@
-/* Beside a program of scripts/secret_memcheck, whose calls of read and write go here (ld's --wrap): for memcheck the first
+/* Beside a program of tools/secret_memcheck, whose calls of read and write go here (ld's --wrap): for memcheck the first
    SECRET_LEN bytes of standard input are undefined, and what is written is defined, since it is public then. */
 #include <stdlib.h>
 #include <unistd.h>

@@ -1,4 +1,4 @@
-"""OpenSSH's server and client beside ours, for scripts/bench_peers: what a process takes of the processor, from its start to its
+"""OpenSSH's server and client beside ours, for tools/bench_peers: what a process takes of the processor, from its start to its
 end, in handshakes and while it carries bytes. It wants root, and Debian's openssh-server and openssh-client, which it installs by apt-get
 where they lack. It makes a user `rezdolin-bench`, and takes that user away at its end; nothing listens on a port."""
 import ctypes

@@ -1,7 +1,4 @@
-#!/usr/bin/env python3
 """Looks for words that docs/DEFINITIONS.md, "One vocabulary", has put aside: those of the last column of its tables.
-
-    scripts/words
 
 1. A word or a phrase without backticks stands in no name of the sources (as a part of it), and in no prose: the comments of sources and
    scripts, the lines `shows:` and `form:` of edits, the comments of cases and scenarios, and the pages.
@@ -10,17 +7,16 @@
 
 What isn't judged: texts that a program has between quotes, what a page has between backticks or in a block of code (there stand
 names, and words of formats), and what tools say of themselves in scripts.
-KEPT has what stays all the same, each with its reason. The last line is 'N passed, M failed', by files; the status is 0 only
-where nothing failed.
+KEPT has what stays all the same, each with its reason. Files are counted.
 """
 import io
 import os
 import re
 import subprocess
-import sys
 import tokenize
 
-ROOT = os.path.dirname(os.path.dirname(os.path.abspath(__file__)))
+from pages_parts import ROOT, read
+
 # what stays: a file's path, the text that has the word, and why
 KEPT = [
     (r'', r'\bfor good\b|for_good\b', 'it is for always'),
@@ -32,6 +28,8 @@ KEPT = [
     (r'docs/DEFINITIONS\.md', r'`sshwire/specs/Reading\.antt`, `Meaning\.antt`', 'the file that says what readings claim'),
 ]
 
+# this file, which has the words themselves
+OWN = 'scripts/pages_parts/words.py'
 # what has comments as a shell's
 SHELL = ('check', 'build', 'sshlab', 'crates.txt', 'scripts/crates_below')
 
@@ -51,8 +49,7 @@ PARTS = re.compile(r'[A-Z]+(?![a-z])|[A-Z][a-z0-9]*|[a-z0-9]+')
 
 def put_aside():
     """The words, the phrases and the names of the tables' last columns."""
-    with open(f'{ROOT}/docs/DEFINITIONS.md', encoding='utf-8') as file:
-        section = re.search(r'^## One vocabulary$(.*?)^## ', file.read(), re.M | re.S)[1]
+    section = re.search(r'^## One vocabulary$(.*?)^## ', read('docs/DEFINITIONS.md'), re.M | re.S)[1]
     words, phrases, names = set(), set(), set()
     for table in re.findall(r'(?:^\|.*\n)+', section, re.M):
         rows = [[x.strip() for x in line.strip('|\n ').split(' |')] for line in table.splitlines()]
@@ -72,11 +69,6 @@ SPOKEN = WORDS - {'say', 'says'}
 PROSE = spaced(r'\b(' + '|'.join(sorted(SPOKEN | PHRASES, key=len, reverse=True)) + r')\b')
 # a line's end, with the lead of the next line
 BREAK = re.compile(r'\n(?![ \t]*\n)[ \t]*(?:///|//!|//|--|#)?')
-
-
-def read(path):
-    with open(f'{ROOT}/{path}', encoding='utf-8') as file:
-        return file.read()
 
 
 def parts_of(path, text):
@@ -133,11 +125,11 @@ def python_prose(text):
             before = token.type
 
 
-def judged(path):
+def wrong_in(path):
     """What is wrong with a file, as places and words; None if it isn't judged."""
-    text = '' if path == 'scripts/words' else read(path)
+    text, is_script = '' if path == OWN else read(path), path.startswith(('scripts/', 'tools/'))
     out = []
-    if re.match(r'crates/.*\.(rt|antt)$|scripts/.*\.rattle$', path):
+    if re.match(r'crates/.*\.(rt|antt)$|tools/.*\.rattle$', path):
         at = 0
         for kind, part in parts_of(path, text):
             found = in_code(path, part) if kind == 'code' else in_prose(path, part) if kind == 'comment' else ()
@@ -161,27 +153,20 @@ def judged(path):
         out += [(m.start() + place, word) for m in re.finditer(r'(?:^[ \t]*#.*\n?)+', text, re.M) for place, word in in_prose(path, m[0], tools)]
     elif path.endswith('.c'):
         out += [(m.start() + place, word) for m in re.finditer(r'/\*.*?\*/', text, re.S) for place, word in in_prose(path, m[0], True)]
-    elif path.endswith('.py') or path.startswith('scripts/') and 'python' in text.split('\n')[0]:
+    elif path.endswith('.py') or is_script and 'python' in text.split('\n')[0]:
         for at, part in python_prose(text):
-            out += [(at + place, word) for place, word in in_prose(path, part, path.startswith('scripts/'))]
+            out += [(at + place, word) for place, word in in_prose(path, part, is_script)]
     else:
         return None
     return [(text.count('\n', 0, at) + 1, word) for at, word in out]
 
 
-def main():
-    if sys.argv[1:]:
-        raise SystemExit(__doc__)
-    passed = failed = 0
+def judged(*_):
+    told, passed, failed = [], 0, 0
     listed = subprocess.run(['git', 'ls-files', '-z'], cwd=ROOT, stdout=subprocess.PIPE, check=True, text=True).stdout
     for path in listed.split('\0')[:-1]:
-        found = judged(path) if os.path.isfile(f'{ROOT}/{path}') else None
-        for line, word in found or ():
-            print(f'{path}:{line}: {word}')
+        found = wrong_in(path) if os.path.isfile(f'{ROOT}/{path}') else None
+        told += [f'{path}:{line}: {word}' for line, word in found or ()]
         passed, failed = passed + (found == []), failed + bool(found)
-    print(f'words: {len(WORDS)} words, {len(PHRASES)} phrases and {len(NAMES)} names are put aside')
-    print(f'{passed} passed, {failed} failed')
-    return 1 if failed or not passed else 0
-
-
-sys.exit(main())
+    told.append(f'words: {len(WORDS)} words, {len(PHRASES)} phrases and {len(NAMES)} names are put aside')
+    return told, passed, failed

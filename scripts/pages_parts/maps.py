@@ -1,38 +1,25 @@
-#!/usr/bin/env python3
 """Writes the maps of the documents from the sources: docs/FILES.md, which names each file of src/ and specs/, and the table
 of edits in docs/GATE.md.
-
-    scripts/maps [--write]
 
 A file's row has the first sentence of the comment at its top. An edit's row has its line `shows:`, which says what a refusal
 of the edit shows; who tries edits passes over it. The table of edits stands between two comments. It isn't written where a
 row in it tells of an edit without such a line, so that no text is lost.
 
-Without a word nothing is written: each row has to stand where it belongs, and no other. The last line is 'N passed, M failed',
-by rows; the status is 0 only where nothing failed.
+Each row has to stand where it belongs, and no other. Rows are counted.
 """
-import glob
 import os
 import re
-import sys
 
-ROOT = os.path.dirname(os.path.dirname(os.path.abspath(__file__)))
-BEGIN, END = '<!-- Written by scripts/maps --write, from the lines `shows:` of the edits. -->', '<!-- Here the table of edits ends. -->'
+from pages_parts import ROOT, found, read, write_to
+from statements import Wrong
+
+BEGIN, END = '<!-- Written by scripts/pages --write maps, from the lines `shows:` of the edits. -->', '<!-- Here the table of edits ends. -->'
 FOLDERS = ['must-fail', 'refused', 'refused/wrong']
 FILES_HEAD = """# The map of files
 
-Each file of `src/` and `specs/` of each crate, by the first sentence of its comment, from the lowest crate up. `specs/Lib.antt` isn't named: it lists the files of its folder. The page is written by `scripts/maps --write`. What to touch for a change tells [MAINTAINING.md](MAINTAINING.md); which files to read for an audit, and in which order, [DEFINITIONS.md](DEFINITIONS.md).
+Each file of `src/` and `specs/` of each crate, by the first sentence of its comment, from the lowest crate up. `specs/Lib.antt` isn't named: it lists the files of its folder. The page is written by `scripts/pages --write maps`. What to touch for a change tells [MAINTAINING.md](MAINTAINING.md); which files to read for an audit, and in which order, [DEFINITIONS.md](DEFINITIONS.md).
 """
 faults, unsaid = [], []
-
-
-def read(path):
-    with open(f'{ROOT}/{path}', encoding='utf-8') as file:
-        return file.read()
-
-
-def found(pattern):
-    return sorted(os.path.relpath(x, ROOT) for x in glob.glob(f'{ROOT}/{pattern}'))
 
 
 def crates():
@@ -97,33 +84,22 @@ def compared(path, wanted, stands):
     others = [x for x in rows_of(stands) if x not in wanted.split('\n')]
     faults.extend(f'{path} has a row that nothing gives: {x}' for x in others)
     if not faults and wanted != stands:
-        faults.append(f'{path} isn\'t current: scripts/maps --write')
+        faults.append(f'{path} isn\'t current: scripts/pages --write maps')
     return len(set(rows_of(wanted)) & set(stands.split('\n')))
 
 
-def main():
-    if sys.argv[1:] not in ([], ['--write']):
-        sys.exit(__doc__)
+def judged(_, write):
     files, edits = files_page(), f'\n\n{edits_table()}\n\n'
     gate = read('docs/GATE.md')
     if gate.count(BEGIN) != 1 or gate.count(END) != 1:
-        sys.exit('scripts/maps: docs/GATE.md has no place for the table of edits')
+        raise Wrong('docs/GATE.md has no place for the table of edits')
     before, rest = gate.split(BEGIN)
     table, after = rest.split(END)
-    if sys.argv[1:]:
-        with open(f'{ROOT}/docs/FILES.md', 'w', encoding='utf-8') as file:
-            file.write(files)
-        by_hand = [x for x in unsaid if x in table]
-        if not by_hand:
-            with open(f'{ROOT}/docs/GATE.md', 'w', encoding='utf-8') as file:
-                file.write(f'{before}{BEGIN}{edits}{END}{after}')
+    if write:
+        write_to('docs/FILES.md', files)
+        if not any(x in table for x in unsaid):
+            write_to('docs/GATE.md', f'{before}{BEGIN}{edits}{END}{after}')
             table = edits
-    stands = read('docs/FILES.md') if os.path.exists(f'{ROOT}/docs/FILES.md') else ''
-    passed = compared('docs/FILES.md', files, stands) + compared('docs/GATE.md', edits, table)
-    for it in faults:
-        print('FAULT', it)
-    print(f'{passed} passed, {len(faults)} failed')
-    return 1 if faults else 0
-
-
-sys.exit(main())
+    standing = read('docs/FILES.md') if os.path.exists(f'{ROOT}/docs/FILES.md') else ''
+    passed = compared('docs/FILES.md', files, standing) + compared('docs/GATE.md', edits, table)
+    return [f'FAULT {it}' for it in faults], passed, len(faults)
