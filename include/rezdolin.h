@@ -41,8 +41,8 @@
  * packet is to copy the record. The record holds an unfinished packet, so read what there is, rather than byte by byte. Calls of
  * several threads share nothing; for one connection make one call after the other.
  *
- * Link librezdolin.a and then liblibc_c.a, which ties it to malloc, realloc and free. docs/USING.md has tables of the codes C1 and so
- * on ("Refused configs"), and F1 and so on ("Why it ended"). */
+ * Link librezdolin.a and then liblibc_c.a, which ties it to malloc, realloc and free. docs/ERRORS.md has tables of the codes C1 and
+ * so on ("Refused configs"), and F1 and so on ("Why it ended"). */
 #ifndef REZDOLIN_H
 #define REZDOLIN_H
 

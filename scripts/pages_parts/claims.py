@@ -226,8 +226,8 @@ def written(book, page):
     files = {it.file.path for it in whole}
     out = [f'# {page.title}', '', page.words, '',
            f'Below stand {"the clauses of one function" if len(functions) == 1 else f"clauses of {len(functions)} functions"} and the {len(whole)} definitions on which they rest, {lines_of(whole)} lines of {len(files)} files, '
-           'word for word. Nothing else has to be read to know what is promised, but the notation, which '
-           '[DEFINITIONS.md](../DEFINITIONS.md#notation) explains, with most of these definitions in plain words. In each part the layers stand from the top to the bottom, '
+           'word for word. Nothing else has to be read to know what is promised, but the notation, which [NOTATION.md](../NOTATION.md) explains; '
+           '[DEFINITIONS.md](../DEFINITIONS.md) has most of these definitions in plain words. In each part the layers stand from the top to the bottom, '
            'and in a layer each definition where a reader first comes to its name. '
            'The page is written by `scripts/pages --write claims`; [AUDIT.md](../AUDIT.md) tells what would be possible if a statement were wrong.', '']
     out += ['| Part | Definitions | Lines |', '|---|---|---|']
@@ -248,7 +248,7 @@ def written(book, page):
     index = ', '.join(f'`{it.name}` {places[it]}' for it in sorted(places, key=lambda x: (x.name.lower(), places[x])))
     library = ', '.join(f'`{x}`' for x in sorted(book.library))
     out += ['## Index', '', f'Each definition by its number: {index}.', '', '## Words of the library', '',
-            f'Taken as the kit\'s library `std` defines them; [DEFINITIONS.md](../DEFINITIONS.md#notation) has the common ones in plain words: {library}.']
+            f'Taken as the kit\'s library `std` defines them; [NOTATION.md](../NOTATION.md) has the common ones in plain words: {library}.']
     return '\n'.join(out) + '\n'
 
 

@@ -1,17 +1,18 @@
-"""Judges docs/DEFINITIONS.md, docs/PROVED.md and the code of README.md and docs/USING.md by the sources.
+"""Judges docs/DEFINITIONS.md, docs/PROVED.md and the code on pages by the sources.
 
 1. Each definition of specs/ that a clause of a public call cites (or a public trait's ghost member, or the view and the
    invariant of a public type, or the meaning of a suite) has one row in DEFINITIONS.md; a case of a `data` has its data's row.
 2. Each row's file has that definition, at that line. With --write the lines are set anew, and files too, where the
    definition has moved to another file of the same crate.
-3. Each row has words. Rows that no clause cites are listed (they are allowed: others stand on them).
+3. Each row has words. Rows that no clause cites are counted (they are allowed: others depend on them).
 4. Each file of specs/, and each file of src/ with a public item, is named in the list of files to read.
-5. Each public call stands in PROVED.md in a row that names its file (a link that ends with CRATE/src/FILE).
-6. Each call in PROVED.md is in the file that its row names, each `name` in brackets is a clause of it, and each clause of an
-   `ensures` with a name is told in the row.
-7. Each block of code between fences in README.md and docs/USING.md stands word for word, but for its indent, in a file that
-   something compiles or runs: one of Rattle or Rust in a program SHOWN or in the Rust package, one of C or Python beside
-   the programs in bindings/. Each of the two pages has one at least, and USING.md has no code without fences.
+5. Each public call and trait has a row in PROVED.md that links its file (a link that ends with CRATE/src/FILE), and a `///`
+   comment in the source.
+6. Each call in a row of PROVED.md is in one of the files that the row links, and a name in brackets is a clause of a call of
+   the row.
+7. Each block of code between fences in README.md, docs/USING.md, docs/LAYERS.md and docs/BINDINGS.md stands word for word,
+   but for its indent, in a file that something compiles or runs: a program SHOWN, or on BINDINGS.md a file of bindings/. Each of
+   these pages has one at least, and those in docs/ have no code without fences.
 Rows, calls and blocks are counted.
 """
 import os
@@ -23,14 +24,24 @@ from statements import WORD, Wrong, imports_of, uncommented
 CRATES = ['sshwire', 'sshpacket', 'sshmsg', 'sshneg', 'sshcore', 'sshworld', 'sshpromises', 'sshkeccak', 'sshmlkem', 'sshsuite', 'sshsuites',
           'sshlab', 'sshidentity', 'rezdolin']
 ROW = re.compile(r'^\| `([^`]+)` \| (\w+)/specs/(\w+)\.antt:(\d+) \| (.*?) \|(.*)\|$', re.M)
-# the programs whose code the two pages show
+# the programs whose code pages show
 SHOWN = ['sshauth', 'sshexample_client', 'sshexample_server', 'sshexample_waiting', 'sshexample_sniffer', 'sshexample_kexinit', 'sshexample_packet']
-# by the word after a fence: the files that may have the block, and what they are called where none has it
-FILES = {
-    'rust': [f'crates/{crate}/src/*.rt' for crate in SHOWN] + ['bindings/rust/src/*.rs', 'bindings/rust/examples/*.rs'],
-    'c': ['bindings/c/*.c', 'bindings/c/*.h'],
-    'python': ['bindings/python/*.py'],
+PROGRAMS = {'rust': [f'crates/{crate}/src/*.rt' for crate in SHOWN]}
+# by page, and there by the word after a fence: the files that may have the block
+CODE = {
+    'README.md': PROGRAMS,
+    'docs/USING.md': PROGRAMS,
+    'docs/LAYERS.md': PROGRAMS,
+    'docs/BINDINGS.md': {
+        'rust': ['bindings/rust/src/*.rs', 'bindings/rust/examples/*.rs', *PROGRAMS['rust']],
+        'c': ['bindings/c/*.c', 'bindings/c/*.h'],
+        'python': ['bindings/python/*.py'],
+    },
 }
+PUBLIC = re.compile(r'pub (?:unsafe )?(?:extern "C" )?(fn|trait) (\w+)')
+CALL_OF_TRAIT = re.compile(r'    fn (\w+)')
+# what may stand between a comment and the item that it is about: attributes
+BETWEEN = re.compile(r'\s*(#\[|\)\]|//(?!/))')
 
 
 class Sources:
@@ -152,34 +163,47 @@ def unlisted(sources, text):
             yield f'{path} is not in the list of files to read'
 
 
+def uncommented_calls(path, lines):
+    """A fault for each public function or trait of a source, or function of a public trait, without a `///` comment."""
+    is_in_trait = False
+    for at, line in enumerate(lines):
+        is_in_trait = line.startswith('pub trait ') or is_in_trait and not line.startswith('}')
+        public = PUBLIC.match(line.strip())
+        name = public[2] if public else is_in_trait and CALL_OF_TRAIT.match(line) and CALL_OF_TRAIT.match(line)[1]
+        above = at - 1
+        while above >= 0 and BETWEEN.match(lines[above]):
+            above -= 1
+        if name and (above < 0 or not lines[above].strip().startswith('///')):
+            yield f'crates/{path}:{at + 1}: {name} has no comment'
+
+
 def calls_of(sources, lines, faults):
-    """How many public calls and traits there are; a fault for each that PROVED.md has no row for."""
+    """How many public calls and traits there are; a fault for each that PROVED.md has no row for, or that has no comment."""
     calls = 0
     for path in sources.files('src/*.rt'):
-        for m in re.finditer(r'\bpub (?:extern "C" )?(fn|trait) (\w+)', sources.code(path)):
+        for _, name in PUBLIC.findall(sources.code(path)):
             calls += 1
-            if not any(path in l and re.search(r'[`:]' + m.group(2) + r'[`:]', l.split('|')[1]) for l in lines):
-                faults.append(f'PROVED.md has no row for {m.group(2)} of {path} that names the file')
+            if not any(f'crates/{path})' in line and re.search(rf'[`:]{name}`', line.split('|')[1]) for line in lines):
+                faults.append(f'PROVED.md has no row for {name} of {path} that links the file')
+        faults += uncommented_calls(path, sources.book.open(path).lines)
     return calls
 
 
 def wrong_in_row(sources, parts, places):
-    """What is wrong with a row of PROVED.md: calls that aren't there, clauses that aren't there, clauses that it doesn't name."""
+    """What is wrong with a row of PROVED.md: calls that are in none of its files, and names in brackets that are no clause of its calls."""
+    bodies = {place: sources.code(place) for place in places}
     said, known = '|'.join(parts[3:]), set()
     for call in [it.split('::')[-1] for it in re.findall(r'`([^`]+)`', parts[1])]:
-        for place in places:
-            body = sources.code(place)
-            if not re.search(r'\b(fn|trait|struct|enum) ' + call + r'\b', body):
-                yield f'PROVED.md: {call} isn\'t in {place}'
-            for kind, name in sources.clauses.get((place, call), []):
-                known.add(name)
-                if kind == 'ensures' and name and f'`{name}`' not in said:
-                    yield f'PROVED.md: the row of {call} ({place}) doesn\'t name its clause {name}'
-            if re.search(r'\btrait ' + call + r'\b', body):
-                known |= {n for (p, c), ns in sources.clauses.items() if p == place for k, n in ns}
+        there = [place for place in places if re.search(rf'\b(fn|trait|struct|enum) {call}\b', bodies[place])]
+        if not there:
+            yield f'PROVED.md: {call} is in none of {", ".join(places)}'
+        for place in there:
+            known |= {name for _, name in sources.clauses.get((place, call), [])}
+            if re.search(rf'\btrait {call}\b', bodies[place]):
+                known |= {name for (of, _), clauses in sources.clauses.items() if of == place for _, name in clauses}
     for group in re.findall(r'\(((?:clauses )?`\w+`(?:(?:, | to | and )`\w+`)*)\)', said):
         for name in re.findall(r'`(\w+)`', group):
-            if name not in known and name != 'ReaderWaits':
+            if name not in known:
                 yield f'PROVED.md: {name} is no clause of {parts[1].strip()}'
 
 
@@ -194,19 +218,20 @@ def stands(block, lines):
     return any(unindented(lines[at:at + len(block)]) == block for at in range(len(lines) - len(block) + 1))
 
 
-def blocks_of(page, shown, faults):
+def blocks_of(page, faults):
     """How many blocks of code a page has; a fault for each that no file has."""
+    files = {word: [read(file).split('\n') for pattern in patterns for file in found(pattern)] for word, patterns in CODE[page].items()}
     parts = re.split(r'^```(.*)\n', read(page), flags=re.M)
     # text, what stands after a fence that opens, a block, what stands after one that closes, text, ..
     if len(parts) % 4 != 1 or len(parts) < 5:
         faults.append(f'{page}: no block of code, or a fence that isn\'t closed')
     for word, block in zip(parts[1::4], parts[2::4]):
         lines = block.rstrip('\n').split('\n')
-        if word not in FILES:
-            faults.append(f'{page}: a block of code that isn\'t marked {", ".join(FILES)}: {lines[0]}')
-        elif not any(stands(lines, file) for file in shown[word]):
-            faults.append(f'{page}: no file of {", ".join(FILES[word])} has this block: {lines[0]}')
-    if page == 'docs/USING.md' and re.search(r'^(?: {4}|\t)', ''.join(parts[0::4]), re.M):
+        if word not in files:
+            faults.append(f'{page}: a block of code that isn\'t marked {", ".join(files)}: {lines[0]}')
+        elif not any(stands(lines, file) for file in files[word]):
+            faults.append(f'{page}: no file of {", ".join(CODE[page][word])} has this block: {lines[0]}')
+    if page != 'README.md' and re.search(r'^(?: {4}|\t)', ''.join(parts[0::4]), re.M):
         faults.append(f'{page}: code without fences')
     return len(parts[2::4])
 
@@ -223,12 +248,8 @@ def judged(book, write):
         parts = line.split('|')
         places = re.findall(r'crates/(\w+/src/\w+\.rt)\)', parts[2]) if len(parts) > 3 else []
         faults += wrong_in_row(sources, parts, places) if places else []
-    shown = {word: [read(file).split('\n') for pattern in patterns for file in found(pattern)] for word, patterns in FILES.items()}
-    blocks = sum(blocks_of(page, shown, faults) for page in ('README.md', 'docs/USING.md'))
-    uncited = sorted(f'{k[2]}' for k in set(rows) - wanted)
-    told = [f'{blocks} blocks of code',
-            f'{len(rows)} rows, {len(wanted)} definitions cited, {calls} public calls and traits'
-            + (f', {definitions.moved} lines set anew' if write else ''),
-            f'rows that others stand on ({len(uncited)}): {", ".join(uncited)}']
+    blocks = sum(blocks_of(page, faults) for page in CODE)
+    told = [f'{blocks} blocks of code, {calls} public calls and traits, {len(wanted)} definitions cited, {len(rows)} rows of definitions'
+            + (f', {definitions.moved} lines set anew' if write else '')]
     # each row, each call and each block counts one; a fault takes one of them away
     return told + [f'FAULT {it}' for it in faults], max(len(rows) + calls + blocks - len(faults), 0), len(faults)

@@ -1,74 +1,69 @@
-"""Looks for words that docs/DEFINITIONS.md, "One vocabulary", has put aside: those of the last column of its tables.
+"""Looks for words where another word is right, by three tables: the word, what is right, and why.
 
-1. A word or a phrase without backticks stands in no name of the sources (as a part of it), and in no prose: the comments of sources and
-   scripts, the lines `shows:` and `form:` of edits, the comments of cases and scenarios, and the pages.
-2. A name in backticks is no name of the sources and stands in no page.
-3. `say` and `says` are put aside for bytes alone: they stand in no name, and no endpoint says anything.
+PARTS: a part of a name in the sources (`heard` in `heard_bytes`), where definitions were renamed.
+NAMES: a whole name, in the sources, and between backticks in a page or a comment.
+TERMS: a phrase that means something else in SSH or here, in names and in prose: the comments of sources and scripts, the lines
+`shows:` and `form:` of edits, the comments of cases and scenarios, and the pages.
 
-What isn't judged: texts that a program has between quotes, what a page has between backticks or in a block of code (there stand
-names, and words of formats), and what tools say of themselves in scripts.
-KEPT has what stays all the same, each with its reason. Files are counted.
+Plain English passes in prose. What isn't judged: texts that a program has between quotes, what a page has in a block of code, and, but
+for NAMES, what prose has between backticks. KEPT has what stays all the same, each with its reason. Files are counted.
 """
 import io
-import os
 import re
-import subprocess
 import tokenize
 
-from pages_parts import ROOT, read
+from pages_parts import files, read, without_code
+
+RECEIVED = ('receive, received', 'an endpoint has received the bytes that it used; so all definitions of histories are named')
+SENT = ('send, sent', 'an endpoint has sent the bytes that it appended to `out`; so all definitions of histories are named')
+PARTS = {
+    'hear': RECEIVED, 'hears': RECEIVED, 'heard': RECEIVED, 'hearing': RECEIVED,
+    'say': SENT, 'says': SENT, 'said': SENT,
+    'behind': ('after', 'what comes later in a stream or a list'),
+    'good': ('successful, of a signature valid', 'RFC 4252 section 5.1'),
+    'lets in': ('accepts', 'RFC 4252 section 5.1'),
+}
+TWIN = 'what contracts see of NAME is NAMEData'
+NAMES = {
+    'LineState': ('LineReaderData, PeerLineReaderData', TWIN), 'ReaderState': ('PacketReaderData', TWIN), 'KeyData': ('KeysData', TWIN),
+    'Meaning': ('SuiteData', TWIN), 'Offer': ('KexInitData', TWIN), 'Content': ('MessageData', TWIN),
+    'KeySource': ('KeyMaterialData', TWIN), 'Proving': ('CredentialData', TWIN), 'Party': ('ConfigData', TWIN),
+    'Policy': ('DecisionsData', TWIN), 'Ending': ('EndData', TWIN), 'Kept': ('StateData', TWIN),
+    'ReachedMethods': ('ReachedData', TWIN), 'ShareData': ('SharesData', TWIN), 'Half': ('NodeData', TWIN),
+    'LabRules': ('LabDecisionsData', TWIN), 'Allowance': ('AllowedData', TWIN), 'Saying': ('StatementData', TWIN),
+    'SideValue': ('SideSettingData', TWIN), 'ClientValue': ('ClientSettingData', TWIN), 'ServerValue': ('ServerSettingData', TWIN),
+    'Drafted': ('DraftData', TWIN),
+}
+TERMS = {
+    'shared number': ('shared secret, K', 'RFC 4253 section 8; in some methods it is bytes'),
+}
 
 # what stays: a file's path, the text that has the word, and why
 KEPT = [
-    (r'', r'\bfor good\b|for_good\b', 'it is for always'),
+    (r'', r'for_good\b', 'it is for always'),
     (r'crates/sshwire/', r'\bMeaning\b', 'the file that says what readings claim'),
     (r'crates/', r'sshwire\.specs\.Meaning\b', 'the same'),
-    (r'crates/sshwire/', r'\bEnding\b|\bending\b', 'how a line reader ended, which is private'),
+    (r'crates/sshwire/', r'\bEnding\b', 'how a line reader ended, which is private'),
     (r'docs/claims/', r'`Ending`', 'the same'),
     (r'crates/sshcore/proofs/seen/', r'\bWalked\.\{says\b', 'a name of the toolchain'),
-    (r'docs/DEFINITIONS\.md', r'`sshwire/specs/Reading\.antt`, `Meaning\.antt`', 'the file that says what readings claim'),
 ]
 
 # this file, which has the words themselves
 OWN = 'scripts/pages_parts/words.py'
 # what has comments as a shell's
 SHELL = ('check', 'build', 'sshlab', 'crates.txt', 'scripts/crates_below')
-
-
-def spaced(pattern):
-    """A pattern whose blanks each fit any number of blanks, but for those before a bracket."""
-    return re.compile(re.sub(r' (?!\))', ' +', pattern), re.I)
-
-
-# who sends, and doesn't say
-SENDERS = spaced(r"\b(?<!of )(an?|the|each|either|no|one|other) (endpoint|side|client|server|peer) says?\b(?! (that|so|whether|by|yes|no|can|how)\b)")
-LETS_IN = spaced(r'\b(let|lets|letting) (\w+ ){0,2}in\b|\b(comes?|came) in (by|over|without)\b|\buser (came|may come) in\b')
-WANTING = spaced(r"\bmemory (was|wasn't|is|isn't) want\w+|\bwant(s|ed|ing)? memory\b")
 NAME = re.compile(r'[A-Za-z_][A-Za-z0-9_]*')
-PARTS = re.compile(r'[A-Z]+(?![a-z])|[A-Z][a-z0-9]*|[a-z0-9]+')
-
-
-def put_aside():
-    """The words, the phrases and the names of the tables' last columns."""
-    section = re.search(r'^## One vocabulary$(.*?)^## ', read('docs/DEFINITIONS.md'), re.M | re.S)[1]
-    words, phrases, names = set(), set(), set()
-    for table in re.findall(r'(?:^\|.*\n)+', section, re.M):
-        rows = [[x.strip() for x in line.strip('|\n ').split(' |')] for line in table.splitlines()]
-        if rows[0][-1].strip('| ') != 'Not':
-            continue
-        for row in rows[2:]:
-            last = row[-1].strip(' |') if len(row) == len(rows[0]) else ''
-            names |= set(re.findall(r'`(\w+)`', last))
-            plain = re.sub(r'`\w+`,? ?', '', last)
-            for it in re.split(r'[,;] | and ', re.sub(r',? of bytes\b', '', plain)):
-                (phrases if ' ' in it else words).add(it.strip())
-    return words - {''}, phrases, names
-
-
-WORDS, PHRASES, NAMES = put_aside()
-SPOKEN = WORDS - {'say', 'says'}
-PROSE = spaced(r'\b(' + '|'.join(sorted(SPOKEN | PHRASES, key=len, reverse=True)) + r')\b')
+WORDS_OF = re.compile(r'[A-Z]+(?![a-z])|[A-Z][a-z0-9]*|[a-z0-9]+')
+PROSE = re.compile(r'\b(' + '|'.join(x.replace(' ', ' +') for x in TERMS) + r')\b', re.I)
+QUOTED = re.compile(r'`(\w+)`')
 # a line's end, with the lead of the next line
 BREAK = re.compile(r'\n(?![ \t]*\n)[ \t]*(?:///|//!|//|--|#)?')
+
+
+def told(word, table):
+    """What is printed of a word: what is right in its place, and why."""
+    right, why = table[word]
+    return f'{word}: {right} is right ({why})'
 
 
 def parts_of(path, text):
@@ -94,21 +89,20 @@ def kept(path, text):
 def in_code(path, text):
     """What is wrong with the names of some code."""
     for m in NAME.finditer(kept(path, re.sub(r'Rattle\.(?!ssh)[\w.]+(\.\{[^}]*\})?', '', text))):
-        parts = PARTS.findall(m[0])
-        whole = ' '.join(parts).lower()
-        found = m[0] if m[0] in NAMES else next((x for x in [*parts, *PHRASES] if x.lower() in WORDS or x in PHRASES and x in whole), None)
-        if found:
-            yield m.start(), f'{m[0]}: {found}'
+        words = [x.lower() for x in WORDS_OF.findall(m[0])]
+        whole = ' '.join(words)
+        if m[0] in NAMES:
+            yield m.start(), told(m[0], NAMES)
+        for table in (PARTS, TERMS):
+            yield from ((m.start(), f'{m[0]}: {told(x, table)}') for x in table if x in words or ' ' in x and x in whole)
 
 
-def in_prose(path, text, of_tools=False):
-    """What is wrong with a prose text: names between backticks apart, which have to be names that are there."""
-    blank = lambda m: ' ' * len(m[0])
-    plain = kept(path, BREAK.sub(blank, re.sub(r'`[^`\n]*`', blank, text)))
-    for pattern in (PROSE, SENDERS, LETS_IN, WANTING):
-        for m in pattern.finditer(plain):
-            if not (of_tools and (pattern is SENDERS or m[0].lower() == 'said')):
-                yield m.start(), ' '.join(m[0].split())
+def in_prose(path, text):
+    """What is wrong with a prose text. A name between backticks is judged as a name alone."""
+    text = kept(path, text)
+    plain = BREAK.sub(lambda m: ' ' * len(m[0]), re.sub(r'`[^`\n]*`', lambda m: ' ' * len(m[0]), text))
+    yield from ((m.start(), told(' '.join(m[0].lower().split()), TERMS)) for m in PROSE.finditer(plain))
+    yield from ((m.start(), told(m[1], NAMES)) for m in QUOTED.finditer(text) if m[1] in NAMES)
 
 
 def python_prose(text):
@@ -125,48 +119,43 @@ def python_prose(text):
             before = token.type
 
 
-def wrong_in(path):
-    """What is wrong with a file, as places and words; None if it isn't judged."""
-    text, is_script = '' if path == OWN else read(path), path.startswith(('scripts/', 'tools/'))
-    out = []
+def judged_parts(path, text):
+    """The parts of a file that are judged: the place of each, `in_code` or `in_prose`, and its text; None if the file isn't judged."""
+    is_script = path.startswith(('scripts/', 'tools/'))
     if re.match(r'crates/.*\.(rt|antt)$|tools/.*\.rattle$', path):
-        at = 0
+        out, at = [], 0
         for kind, part in parts_of(path, text):
-            found = in_code(path, part) if kind == 'code' else in_prose(path, part) if kind == 'comment' else ()
-            out += [(at + place, word) for place, word in found]
+            out += [(at, in_code if kind == 'code' else in_prose, part)] if kind != 'text' else []
             at += len(part)
-    elif path.endswith('.edit'):
-        for m in re.finditer(r'^(file|only|old|new|shows|form): ?(.*)$', text, re.M):
-            code = re.sub(r'"(?:[^"\\]|\\.)*"|//.*', lambda m: ' ' * len(m[0]), m[2])
-            found = in_prose(path, m[2]) if m[1] in ('shows', 'form') else in_code(path, code)
-            out += [(m.start(2) + place, word) for place, word in found]
-    elif path.endswith('.md'):
-        vocabulary = re.search(r'^## One vocabulary$.*?(?=^## )', text, re.M | re.S) if path == 'docs/DEFINITIONS.md' else None
-        blank = lambda m: re.sub(r'[^\n]', ' ', m[0])
-        plain = re.sub(r'^```.*?^```$|^ {4}.*$', blank, text, flags=re.M | re.S)
-        if vocabulary:
-            plain = plain[:vocabulary.start()] + blank(vocabulary) + plain[vocabulary.end():]
-        out += list(in_prose(path, plain))
-        out += [(m.start(), m[0]) for m in re.finditer(r'`\w+`', kept(path, plain)) if m[0][1:-1] in NAMES]
-    elif re.match(r'scenarios/.*\.txt$|cases/.*\.cases$', path) or path in SHELL or path.endswith('.sh'):
-        tools = not path.startswith('scenarios/')
-        out += [(m.start() + place, word) for m in re.finditer(r'(?:^[ \t]*#.*\n?)+', text, re.M) for place, word in in_prose(path, m[0], tools)]
-    elif path.endswith('.c'):
-        out += [(m.start() + place, word) for m in re.finditer(r'/\*.*?\*/', text, re.S) for place, word in in_prose(path, m[0], True)]
-    elif path.endswith('.py') or is_script and 'python' in text.split('\n')[0]:
-        for at, part in python_prose(text):
-            out += [(at + place, word) for place, word in in_prose(path, part, is_script)]
-    else:
+        return out
+    if path.endswith('.edit'):
+        lines = re.finditer(r'^(file|only|old|new|shows|form): ?(.*)$', text, re.M)
+        blank = lambda x: re.sub(r'"(?:[^"\\]|\\.)*"|//.*', lambda m: ' ' * len(m[0]), x)
+        return [(m.start(2), in_prose, m[2]) if m[1] in ('shows', 'form') else (m.start(2), in_code, blank(m[2])) for m in lines]
+    if path.endswith('.md'):
+        return [(0, in_prose, without_code(text))]
+    if re.match(r'scenarios/.*\.txt$|cases/.*\.cases$', path) or path in SHELL or path.endswith('.sh'):
+        return [(m.start(), in_prose, m[0]) for m in re.finditer(r'(?:^[ \t]*#.*\n?)+', text, re.M)]
+    if path.endswith('.c'):
+        return [(m.start(), in_prose, m[0]) for m in re.finditer(r'/\*.*?\*/', text, re.S)]
+    if path.endswith('.py') or is_script and 'python' in text.split('\n')[0]:
+        return [(at, in_prose, part) for at, part in python_prose(text)]
+    return None
+
+
+def wrong_in(path):
+    """What is wrong with a file, as lines and words; None if it isn't judged."""
+    text = '' if path == OWN else read(path)
+    parts = judged_parts(path, text)
+    if parts is None:
         return None
-    return [(text.count('\n', 0, at) + 1, word) for at, word in out]
+    return [(text.count('\n', 0, at + place) + 1, word) for at, judge, part in parts for place, word in judge(path, part)]
 
 
 def judged(*_):
-    told, passed, failed = [], 0, 0
-    listed = subprocess.run(['git', 'ls-files', '-z'], cwd=ROOT, stdout=subprocess.PIPE, check=True, text=True).stdout
-    for path in listed.split('\0')[:-1]:
-        found = wrong_in(path) if os.path.isfile(f'{ROOT}/{path}') else None
-        told += [f'{path}:{line}: {word}' for line, word in found or ()]
+    lines, passed, failed = [], 0, 0
+    for path in files():
+        found = wrong_in(path)
+        lines += [f'{path}:{line}: {word}' for line, word in found or ()]
         passed, failed = passed + (found == []), failed + bool(found)
-    told.append(f'words: {len(WORDS)} words, {len(PHRASES)} phrases and {len(NAMES)} names are put aside')
-    return told, passed, failed
+    return lines, passed, failed
