@@ -354,7 +354,7 @@ class Book:
         return found
 
     def function(self, path, name):
-        """A public function of a file, by its name after that of its type."""
+        """A function of a file, by its name after that of its type."""
         source, owner = self.open(path), name.rpartition('::')[0]
         if not source:
             raise Wrong(f'there is no file crates/{path}')
@@ -362,9 +362,9 @@ class Book:
         if owner:
             at = next((at for at, x in enumerate(lines) if re.match(rf'impl(?:<.*?>)? {owner}\b', x)), None)
             inside = range(at, source.end_of(at)) if at is not None else range(0)
-        head = next((at for at in inside if re.match(rf'\s*pub fn {name.split("::")[-1]}\b', lines[at])), None)
+        head = next((at for at in inside if re.match(rf'\s*(?:pub )?fn {name.split("::")[-1]}\b', lines[at])), None)
         if head is None:
-            raise Wrong(f'crates/{path} has no public function {name}')
+            raise Wrong(f'crates/{path} has no function {name}')
         return Function(source, head, name)
 
 
@@ -412,6 +412,11 @@ class Function:
         shown = [*self.comment, *self.head, *(line for it in taken for line in it[2])]
         indent = min(len(x) - len(x.lstrip()) for x in shown)
         return [x[indent:] for x in shown]
+
+    def whole(self):
+        """All of it, its body too."""
+        at = self.line - 1
+        return [*self.comment, *self.source.lines[at:self.source.end_of(at) + 1]]
 
     def names(self, wanted, book):
         """What these clauses name."""

@@ -34,13 +34,39 @@ CALLS = ('What the calls are given, and what is asked of the suite and the decis
 
 
 class Page:
-    def __init__(self, title, words, clauses, later):
-        self.title, self.words, self.clauses = title, words.strip(), clauses
+    """A page: `clauses` has functions with the clauses that stand on it; with `whole` each function stands there with its body. Of what
+    is `opaque` the name stands there and nothing more: calls tell all that is claimed of it, or another page has it."""
+
+    def __init__(self, title, words, clauses, later, opaque=(), whole=False):
+        self.title, self.words, self.clauses, self.opaque, self.whole = title, words.strip(), clauses, opaque, whole
         self.later = [*later, MESSAGES, INSIDE]
 
 
 PAGES = {
     'headline': Page('The headline', """
+**To whom:** those who run a client and a server of this project against each other over a faithful wire, and those who want to know whether two configs fit.
+
+**What:** take a client and a server with accepted configs, one suite of algorithms and the same decisions. Deliver what each sends to the other, in order, in any pieces, as `run_by_hand` does over two vectors; its whole code is below. Then each side that has ended has the end that one function of configs, suite and decisions gives (`outcome`). If each has ended or used all that the other has sent, both have ended, and one is authenticated exactly if the other is, with the same that was agreed.
+
+**What you have to believe:** that the code below is what a wire does, that `outcome` is what you want, and that a suite has its laws. `Endpoint`, `ClientConfig` and `ServerConfig` are opaque here: `endpoint_end` is what `end()` of an endpoint returns, and the data of a config are its parts, as [the endpoint's theorem](endpoint.md) has them. [What is asked of a suite](suite.md) has a page of its own.
+
+**Premises:** neither side ran out of memory, else the function returns `Memory`. All ends of the suite agree and hold and sign by all keys (`AgreeingSuite`). Decisions are a function of what they are asked (`Decisions`). No premise is on `reading`: each side may read the other's version line strictly or as deployed peers write it. For a suite whose ends don't all agree, and for worlds that go on, see [two endpoints and the bytes between them](world.md).
+""", [
+        ('sshpromises/src/by_hand.rt', 'run_by_hand', ['headline']),
+        ('sshpromises/src/by_hand.rt', 'carry', []),
+        ('sshpromises/src/by_hand.rt', 'feed_next', []),
+        ('sshpromises/src/by_hand.rt', 'next_of', []),
+        ('sshpromises/src/by_hand.rt', 'is_done', []),
+    ], [('What the two configs come to', ['outcome'], 'The outcome as a function of both configs, the suite and the decisions.')],
+        ('Endpoint', 'EndpointData', 'ClientConfig', 'ServerConfig', 'IsLawful', 'Suite'), True),
+    'suite': Page('What is asked of a suite of algorithms', """
+**To whom:** those who write a suite, and those who want to know what all promises assume of one.
+
+**What:** the trait `Suite` with the laws of one end (`IsLawful`), and the trait `AgreeingSuite` for a suite whose ends agree. Without the laws of one end it is no `Suite`: the prover wants them proved. `DeployedSuite`, the suites for tests and each inventory of algorithms have them, proved.
+""", [
+        ('sshpromises/src/by_hand.rt', 'run_by_hand', []),
+    ], [], ('Endpoint', 'EndpointData', 'ClientConfig', 'ServerConfig', 'Headline', 'outcome', 'endpoint_end', 'Decisions', 'Delivery', 'Memory')),
+    'world': Page('Two endpoints and the bytes between them', """
 **To whom:** those who run a client and a server of this project against each other over a faithful wire, and those who want to know whether two configs fit.
 
 **What:** take a client and a server with accepted configs, one suite of algorithms and the same decisions. Deliver what each sends to the other, in order, in any pieces. Then each side that has ended has the end that one function of configs, suite and decisions gives (`outcome`); where nothing waits for either, both have ended, and one is authenticated exactly if the other is, with the same that was agreed. So many rounds as the client's plan needs bring two sides there.
@@ -142,15 +168,15 @@ PAGES = {
 class Closure:
     """The statements of a page, part by part, none twice."""
 
-    def __init__(self, book):
-        self.book, self.parts, self.users = book, [], {}
+    def __init__(self, book, opaque=()):
+        self.book, self.parts, self.users, self.opaque = book, [], {}, opaque
 
     def open(self, heading, words, roots, put_off):
         """Opens what these name, but for what is put off; a root is (the statement, who names it)."""
         order, waiting = [], list(roots)
         while waiting:
             it, user = waiting.pop(0)
-            if it in self.users or it.name in put_off:
+            if it in self.users or it.name in put_off or it.name in self.opaque:
                 continue
             self.users[it] = user
             order.append(it)
@@ -161,12 +187,12 @@ class Closure:
 
     def named(self, names):
         """What of these names is named by what stands on the page."""
-        return [(it, user.name) for user in list(self.users) for it in user.names(self.book) if it.name in names and it not in self.users]
+        return [(it, user.name) for user in list(self.users) for it in user.names(self.book) if it.name in names and it not in self.users and it.name not in self.opaque]
 
 
 def closure_of(book, page, functions):
     """All parts of a page after its clauses, and who names each statement."""
-    closure = Closure(book)
+    closure = Closure(book, page.opaque)
     later = [part[1] for part in page.later]
     roots = [(it, function.name) for function, wanted in functions for it in function.names(wanted, book)]
     calls = [(it, function.name) for function, _ in functions for it in function.types(book)]
@@ -187,10 +213,13 @@ def shown(path):
     return f'[{path}](../../crates/{path})'
 
 
-def clauses_of(functions):
-    """The clauses, function by function."""
+def clauses_of(functions, whole):
+    """The clauses, function by function; with their bodies, where they stand whole."""
     out = []
     for function, wanted in functions:
+        if whole:
+            out += [f'`{function.name}`, {shown(function.source.path)}:', '', '```rust', *function.whole(), '```', '']
+            continue
         _, others = function.chosen(wanted)
         within = ''.join(f', in `{x.rstrip(" {")}`' for x in function.bounds())
         out += [f'`{function.name}`, {shown(function.source.path)}{within}:', '', '```rust', *function.text(wanted), '```', '']
@@ -232,7 +261,7 @@ def written(book, page):
            'The page is written by `scripts/pages --write claims`; [AUDIT.md](../AUDIT.md) tells what would be possible if a statement were wrong.', '']
     out += ['| Part | Definitions | Lines |', '|---|---|---|']
     out += [f'| [{heading}]({anchor(heading)}) | {len(order)} | {lines_of(order)} |' for heading, _, order in parts]
-    out += ['', '## The clauses', '', *clauses_of(functions)]
+    out += ['', '## The clauses', '', *clauses_of(functions, page.whole)]
     places, named = {}, [it for function, wanted in functions for it in function.names(wanted, book)]
     for heading, words, order in parts:
         later = opened_later(named + [x for it in order for x in it.names(book)], {*places, *order})

@@ -22,7 +22,7 @@ use Rattle.sshcore.specs.EndData.{AgreedData, Authenticated, Closed, Disconnecte
 use Rattle.sshcore.specs.EndpointParts.{ConfigData, DecisionsData, Setup, setup_with}
 use Rattle.sshcore.specs.Exchanged.{HasForm}
 use Rattle.sshcore.specs.History.{BrokenOff}
-use Rattle.sshcore.specs.Inputs.{EndpointStands, Steps}
+use Rattle.sshcore.specs.Inputs.{EndpointStands, Steps, turns_left}
 use Rattle.sshcore.specs.Output.{sent_from}
 use Rattle.sshcore.specs.Questions.{AnswerData, Decided, HostKeyQuestion, QuestionData, SignatureQuestion, Signed, UserQuestion, always, decided, decided_by, question_at, taken, taken_by}
 use Rattle.sshcore.specs.StateData.{StateData, keys_due, state_data}
@@ -81,7 +81,7 @@ module _ (setup : Setup) (kept : StateData) (i : Input) (h s : List ℕ) where
   }
 
 -- the decisions that always answer so, and a packet that asks
-always_decides : (answer : AnswerData) (q : QuestionData) → decided (always answer) q ≡ taken q answer
+pub always_decides : (answer : AnswerData) (q : QuestionData) → decided (always answer) q ≡ taken q answer
 always_decides (Decided allowed) (HostKeyQuestion algorithm blob) = refl
 always_decides (Decided allowed) (UserQuestion number user service proof) = refl
 always_decides (Decided allowed) (SignatureQuestion number algorithm blob input) = refl
@@ -93,8 +93,8 @@ always_decides (Signed found) (SignatureQuestion number algorithm blob input) = 
 pub alike_unasked : (d : DecisionsData) (q : Option QuestionData) → q ≡ None → decided_by d q ≡ decided_by (always (Decided false)) q
 alike_unasked d q e = ap (decided_by d) e ∙ sym (ap (decided_by (always (Decided false))) e)
 
-alike_asked : (d : DecisionsData) (answer : AnswerData) (q : Option QuestionData) (is : QuestionData) → q ≡ Some is → decided d is ≡ taken is answer → decided_by d q ≡ decided_by (always answer) q
-alike_asked d answer q is e agrees = ap (decided_by d) e ∙ agrees ∙ sym (always_decides answer is) ∙ sym (ap (decided_by (always answer)) e)
+alike_asked : (d given : DecisionsData) (q : Option QuestionData) (is : QuestionData) → q ≡ Some is → decided d is ≡ decided given is → decided_by d q ≡ decided_by given q
+alike_asked d given q is e agrees = ap (decided_by d) e ∙ agrees ∙ sym (ap (decided_by given) e)
 
 reads_as : (k : Option KeysData) (strict : Bool) (r : PacketReaderData) → reads_with k strict r ≡ reader_with k strict r
 reads_as None strict r = refl
@@ -115,25 +115,46 @@ module _ (below : Below) (streams : Streams) (m : SuiteData) (role : Side) (part
       (ap (λ (k : StateData). k.sending) turns.left) (ap (λ (k : StateData). k.carried) turns.left)
       (turns.reads ∙ reads_as (keys_due new.phase new.carried.pending) new.known.strict (packet_reader_data p))
 
--- A packet that waited is answered.
-module _ (below : Below) (streams : Streams) (m : SuiteData) (role : Side) (party : ConfigData) (answer : AnswerData) (w : WaitingData) (old new last : StateData) (before after : List ℕ) (is : old.end ≡ Open) where
+-- A packet that waited is answered by these decisions.
+module _ (below : Below) (streams : Streams) (m : SuiteData) (role : Side) (party : ConfigData) (given : DecisionsData) (w : WaitingData) (old new last : StateData) (before after : List ℕ) (is : old.end ≡ Open) where
   answer_packets : (p q : PacketReader) → question_at m role party old w.payload ≡ Some w.question
-      → (HasForm m old → Brings (setup_with m (always answer) role party) old new w.packet w.payload before after)
-      → Turns new last p q → AnswerSteps m role party (taken w.question answer) w (input.Packets p) old (input.Packets q) last before after
+      → (HasForm m old → Brings (setup_with m given role party) old new w.packet w.payload before after)
+      → Turns new last p q → AnswerSteps m role party (decided given w.question) w (input.Packets p) old (input.Packets q) last before after
   answer_packets p q asks brings turns d agrees i taken r =
       let same : p ≡ r.after = cc in
       subst (λ (x : Input). Steps (setup_with m d role party) x old (input.Packets q) last taken before after) (sym r.was)
       (subst (λ (l : List ℕ). Steps (setup_with m d role party) (input.Packets r.before) old (input.Packets q) last l before after) (take-length taken)
-      (unit_steps below streams m role party (always answer) old new last before after is r.before p q taken w.payload (length taken) w.packet (omega arith) r.reads r.number
+      (unit_steps below streams m role party given old new last before after is r.before p q taken w.payload (length taken) w.packet (omega arith) r.reads r.number
       (ap (λ (x : PacketReader). packet_reader_data x) same ∙ r.left) brings turns d
-      (alike_asked d answer (question_at m role party old w.payload) w.question asks agrees)))
+      (alike_asked d given (question_at m role party old w.payload) w.question asks agrees)))
 
   pub answer_steps : (j k : Input) → question_at m role party old w.payload ≡ Some w.question
-      → (HasForm m old → Brings (setup_with m (always answer) role party) old new w.packet w.payload before after)
-      → IsTurned new last j k → AnswerSteps m role party (taken w.question answer) w j old k last before after
+      → (HasForm m old → Brings (setup_with m given role party) old new w.packet w.payload before after)
+      → IsTurned new last j k → AnswerSteps m role party (decided given w.question) w j old k last before after
   answer_steps (input.Packets p) (input.Packets q) asks brings turned = answer_packets p q asks brings turned
   answer_steps (input.Packets p) (input.Lines q) asks brings turned = absurd turned
   answer_steps (input.Lines p) k asks brings turned = absurd turned
+
+  -- and what follows is packets
+  pub answered_turns : (j k : Input) (e : EndData) → IsTurned new last j k → turns_left e k ≤ turns_left Open j
+  answered_turns (input.Packets p) (input.Packets q) e turned = few e
+    where
+      few : (e : EndData) → turns_left e (input.Packets q) ≤ 1
+      few Open = omega arith
+      few (Authenticated a) = omega arith
+      few (Failed f) = omega arith
+      few (Closed reason) = omega arith
+      few (Disconnected reason) = omega arith
+  answered_turns (input.Packets p) (input.Lines q) e turned = absurd turned
+  answered_turns (input.Lines p) k e turned = absurd turned
+
+-- A packet that asked is answered at once, by these decisions: both together are one step.
+pub answered_at_once : (m : SuiteData) (role : Side) (party : ConfigData) (d : DecisionsData) (i j k : Input) (old mid new : StateData) (w : WaitingData) (taken before between after : List ℕ)
+    → AskingSteps m role party i old j mid (Some w) taken before between → AnswerSteps m role party (decided d w.question) w j mid k new between after
+    → Steps (setup_with m d role party) i old k new taken before after
+answered_at_once m role party d i j k old mid new w taken before between after stops answers =
+    subst (λ (x : StateData). Steps (setup_with m d role party) i x k new taken before after) stops.same
+    (subst (λ (l : List ℕ). Steps (setup_with m d role party) i mid k new taken l after) stops.nothing_sent (answers d refl i taken stops.reads))
 
 -- what an open endpoint asks is what the packet asks that waits
 pub asks_packet : (m : SuiteData) (role : Side) (party : ConfigData) (kept : StateData) (j : Input) (w : Option WaitingData) → IsAskingEndpoint m role party kept j w

@@ -1,6 +1,6 @@
 //! What an asking endpoint asks, and how it goes on with the answer.
 
-ghost use Rattle.std.specs.Prelude.{◌≡◌, ◌++◌, ℕ, List, [], None, Ok, OnErr, OnOk, Some, is_some, option_map, true, false};
+ghost use Rattle.std.specs.Prelude.{◌≡◌, ◌≤◌, ◌++◌, ℕ, List, [], None, Ok, OnErr, OnOk, Some, is_some, option_map, true, false};
 ghost use Rattle.sshpacket.specs.Suite.{SuiteData};
 ghost use Rattle.sshcore.specs.declared.end.Fault.TheVariants as fault;
 ghost use Rattle.sshcore.specs.Asking.{Answered, AskingAfter, AskingBreaks, asked_by, asking_end};
@@ -9,10 +9,10 @@ ghost use Rattle.sshcore.specs.Brings.{IsOngoing};
 ghost use Rattle.sshcore.specs.EndData.{Failed, Open, by_input, end_data};
 ghost use Rattle.sshcore.specs.EndpointConfig.{config_data, role_of};
 ghost use Rattle.sshcore.specs.EndpointParts.{DecisionsData};
-ghost use Rattle.sshcore.specs.Inputs.{CanRead, EndpointStands};
+ghost use Rattle.sshcore.specs.Inputs.{CanRead, EndpointStands, turns_left};
 ghost use Rattle.sshcore.specs.declared.given.Answer.TheVariants as given;
 ghost use Rattle.sshcore.specs.QuestionsView.{answer_data, question_data};
-ghost use Rattle.sshcore.specs.Questions.{Decided, question_at, taken, taken_by};
+ghost use Rattle.sshcore.specs.Questions.{Decided, decided, question_at, taken, taken_by};
 ghost use Rattle.sshcore.specs.Keeping.{StillFits};
 ghost use Rattle.sshcore.specs.StateData.{state_data};
 ghost use Rattle.sshcore.specs.Unread.{AnswerSteps, IsAsked, IsIdle, IsTurned};
@@ -21,6 +21,7 @@ ghost use Rattle.sshcore.specs.WaitingView.{waiting_data};
 use crate::asking_endpoint::AskingEndpoint;
 use crate::asking_input::turn;
 use crate::config::Config;
+use crate::decisions::Decisions;
 use crate::end::{End, Fault};
 use crate::given::{Answer, Given, Listener};
 use crate::input::Input;
@@ -110,7 +111,7 @@ impl<S: Suite, L: Listener> AskingEndpoint<'_, S, L> {
         let Some(waiting) = self.waiting.take() else {
             return Ok(());
         };
-        let answered = answer_packet(
+        let answered = answer_given(
             &mut self.input,
             &mut self.state,
             &self.config,
@@ -131,7 +132,7 @@ impl<S: Suite, L: Listener> AskingEndpoint<'_, S, L> {
 }
 
 /// Answers a packet that waited, by decisions that answer so; where an allocation failed `out` is unchanged.
-fn answer_packet<S: Suite, L: Listener>(
+fn answer_given<S: Suite, L: Listener>(
     input: &mut Input,
     state: &mut State<'_>,
     config: &Config<'_>,
@@ -150,22 +151,45 @@ fn answer_packet<S: Suite, L: Listener>(
     ensures kept { OnOk result (by_input (end_data state.new.end) ≡ true) }
     ensures memory { OnErr result (out.new.items ≡ out.old.items) }
 {
+    let given = Given { answer, listener };
+    let mut sent = Vec::new(state.alloc);
+    answer_packet(input, state, config, suite, &given, waiting, &mut sent)?;
+    out.extend_from_slice(&sent)?;
+    Ok(())
+}
+
+/// Answers a packet that asked, by these decisions; what is sent to it is appended to `sent`.
+pub(crate) fn answer_packet<S: Suite, D: Decisions>(
+    input: &mut Input,
+    state: &mut State<'_>,
+    config: &Config<'_>,
+    suite: &S,
+    decisions: &D,
+    waiting: &Waiting,
+    sent: &mut Vec<u8>,
+) -> Result<(), Memory>
+    requires asked { IsAsked (S.meaning suite.now) (role_of config.now) (config_data config.now) (state_data state.old) input.old (waiting_data waiting.now) }
+    requires reads { CanRead (S.meaning suite.now) input.old }
+    ensures steps { OnOk result (AnswerSteps (S.meaning suite.now) (role_of config.now) (config_data config.now) (decided (D.policy decisions.now) (waiting_data waiting.now).question) (waiting_data waiting.now)
+        input.old (state_data state.old) input.new (state_data state.new) sent.old.items sent.new.items) }
+    ensures reads { OnOk result (IsOngoing (end_data state.new.end) → CanRead (S.meaning suite.now) input.new) }
+    ensures keeps { OnOk result (StillFits (S.meaning suite.now) (config_data config.now) (state_data state.old) (state_data state.new)) }
+    ensures kept { OnOk result (by_input (end_data state.new.end) ≡ true) }
+    ensures turns { OnOk result (turns_left (end_data state.new.end) input.new ≤ turns_left Open input.old) }
+{
     sshpacket::parser_by_law();
     sshpacket::stream_law();
     sshmsg::numbers_law();
     sshneg::markers_law();
-    let given = Given { answer, listener };
-    let mut sent = Vec::new(state.alloc);
     state.receive_prepared(
         config,
         suite,
         &waiting.prepared,
-        &given,
+        decisions,
         &waiting.payload,
         waiting.packet,
-        &mut sent,
+        sent,
     )?;
-    out.extend_from_slice(&sent)?;
     turn_input(input, state);
     Ok(())
 }

@@ -21,12 +21,14 @@ ghost use Rattle.sshcore.specs.Sessions.{IsSession};
 ghost use Rattle.sshcore.specs.Shown.{ShowsTheSame};
 ghost use Rattle.sshcore.specs.EndpointData.{endpoint_setup};
 
+use crate::asking_answer::answer_packet;
 use crate::chosen_names::ChosenNames;
 use crate::client_config::ClientConfig;
 use crate::config::Config;
 use crate::decisions::Decisions;
 use crate::draws::Draws;
 use crate::end::{End, Fault};
+use crate::given::Tells;
 use crate::input::Input;
 use crate::server_config::ServerConfig;
 use crate::session::{Session, accepted_by, session_of};
@@ -382,7 +384,7 @@ impl<'a, S: Suite, D: Decisions> Endpoint<'a, S, D> {
     }
 }
 
-/// Reads on up to the end of one unit; where an allocation failed `out` is unchanged.
+/// Reads on up to the end of one unit, and answers what it asks; where an allocation failed `out` is unchanged.
 fn receive<S: Suite, D: Decisions>(
     input: &mut Input,
     state: &mut State<'_>,
@@ -404,7 +406,11 @@ fn receive<S: Suite, D: Decisions>(
     ensures memory { OnErr result (out.new.items ≡ out.old.items) }
 {
     let mut sent = Vec::new(state.alloc);
-    let used = input.receive(state, config, suite, decisions, piece, &mut sent)?;
+    let listener = Tells { decisions };
+    let came = input.receive_asking(state, config, suite, &listener, piece, &mut sent)?;
+    if let Some(waiting) = &came.waiting {
+        answer_packet(input, state, config, suite, decisions, waiting, &mut sent)?;
+    }
     out.extend_from_slice(&sent)?;
-    Ok(used)
+    Ok(came.used)
 }

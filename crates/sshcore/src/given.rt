@@ -26,6 +26,18 @@ impl Listener for Silent {
     }
 }
 
+/// Decisions as the listener that they are.
+#[derive(Clone, Copy)]
+pub(crate) struct Tells<'d, D: Decisions> {
+    pub(crate) decisions: &'d D,
+}
+
+impl<D: Decisions> Listener for Tells<'_, D> {
+    fn told(&self, notice: Notice<'_>) {
+        self.decisions.told(notice);
+    }
+}
+
 /// An answer that was given: yes or no, or a signature or none.
 #[derive(Clone, Copy)]
 pub(crate) enum Answer<'g> {

@@ -7,28 +7,26 @@ ghost use Rattle.sshwire.specs.declared.fault.WireFault.TheVariants as wire;
 ghost use Rattle.sshpacket.specs.declared.fault.PacketFault.TheVariants as packet;
 ghost use Rattle.sshpacket.specs.KeysData.{KeysData};
 ghost use Rattle.sshpacket.specs.Parse.{OfPacket};
-ghost use Rattle.sshpacket.specs.PacketReaderData.{ReaderWaits, packet_reader_data};
+ghost use Rattle.sshpacket.specs.PacketReaderData.{packet_reader_data};
 ghost use Rattle.sshpacket.specs.declared.reader.PacketReader.{PacketReader};
 ghost use Rattle.sshpacket.specs.declared.limits.TheConstants.{PACKET_LIMIT};
 ghost use Rattle.sshcore.specs.declared.end.Fault.TheVariants as failed;
 ghost use Rattle.sshcore.specs.declared.input.Input.TheVariants as input;
-ghost use Rattle.sshcore.specs.Brings.{Gives, IsOngoing};
-ghost use Rattle.sshcore.specs.EndpointConfig.{config_data, setup_of};
-ghost use Rattle.sshcore.specs.EndData.{Failed, Open, by_input, end_data, fails};
-ghost use Rattle.sshcore.specs.Inputs.{Begins, CanRead, Steps, held_by, turns_left};
+ghost use Rattle.sshcore.specs.Brings.{Gives};
+ghost use Rattle.sshcore.specs.EndpointConfig.{config_data};
+ghost use Rattle.sshcore.specs.EndData.{Failed, Open, end_data, fails};
+ghost use Rattle.sshcore.specs.Inputs.{Begins, held_by};
 ghost use Rattle.sshcore.specs.Record.{wanted};
 ghost use Rattle.sshcore.specs.ReceivesLines.{EndsBy, MayReadOn, ReceivesLines, used_by};
 ghost use Rattle.sshcore.specs.Replies.{fault_of};
 ghost use Rattle.sshcore.specs.StateData.{state_data};
 
 use crate::config::Config;
-use crate::decisions::Decisions;
 use crate::end::{End, Fault};
 use crate::lent::set;
-use crate::notice::{line_of, tell_lines};
 use crate::state::State;
 use sshneg::Side;
-use sshpacket::{Keys, PacketFault, PacketReader, PacketStep, Suite};
+use sshpacket::{Keys, PacketFault, PacketReader, Suite};
 use sshwire::{LineForm, Memory, OTHER_LINE_LIMIT, PeerLineReader, PeerStep, WireFault};
 use std::alloc::Global;
 
@@ -83,56 +81,6 @@ impl Input {
         match self {
             Input::Lines(_) => (None, 0),
             Input::Packets(reader) => reader.into_keys(),
-        }
-    }
-
-    /// Reads on up to the end of one unit, a version line or a packet, and answers how many bytes of the
-    /// piece were used; what is sent to it is appended to `sent`.
-    pub(crate) fn receive<S: Suite, D: Decisions>(
-        &mut self,
-        state: &mut State<'_>,
-        config: &Config<'_>,
-        suite: &S,
-        decisions: &D,
-        piece: &[u8],
-        sent: &mut Vec<u8>,
-    ) -> Result<usize, Memory>
-        requires open { end_data state.old.end ≡ Open }
-        requires some { 0 < length piece.now }
-        requires reads { CanRead (S.meaning suite.now) self.old }
-        ensures steps { IfOk result (λ used. Steps (setup_of (S.meaning suite.now) (D.policy decisions.now) config.now)
-            self.old (state_data state.old) self.new (state_data state.new) (take used piece.now) sent.old.items sent.new.items) }
-        ensures used { IfOk result (λ used. used ≤ length piece.now) }
-        ensures turns { IfOk result (λ used. turns_left (end_data state.new.end) self.new < turns_left (end_data state.old.end) self.old + 3 * used) }
-        ensures reads { OnOk result (IsOngoing (end_data state.new.end) → CanRead (S.meaning suite.now) self.new) }
-        ensures kept { OnOk result (by_input (end_data state.new.end) ≡ true) }
-    {
-        sshpacket::parser_by_law();
-        sshpacket::stream_law();
-        sshmsg::numbers_law();
-        sshneg::markers_law();
-        let alloc = state.alloc;
-        match self {
-            Input::Lines(reader) => {
-                let begun = line_of(reader.unfinished());
-                let received = receive_lines(reader, state, piece)?;
-                tell_lines(
-                    decisions,
-                    begun,
-                    piece.get(..received.used()).unwrap_or(&[]),
-                );
-                match received {
-                    Received::Part(used) => Ok(used),
-                    Received::Refused(used) => Ok(used),
-                    Received::Whole(used) => {
-                        *self = Input::Packets(PacketReader::new(alloc));
-                        Ok(used)
-                    }
-                }
-            }
-            Input::Packets(reader) => {
-                receive_packets(reader, state, config, suite, decisions, piece, sent)
-            }
         }
     }
 }
@@ -201,46 +149,6 @@ fn fail_line(state: &mut State<'_>, fault: WireFault) -> Result<(), Memory>
         _ => {
             set(&mut state.end, End::Failed(Fault::Version));
             Ok(())
-        }
-    }
-}
-
-/// Reads on up to the end of one packet; fails where it is refused.
-fn receive_packets<S: Suite, D: Decisions>(
-    reader: &mut PacketReader,
-    state: &mut State<'_>,
-    config: &Config<'_>,
-    suite: &S,
-    decisions: &D,
-    piece: &[u8],
-    sent: &mut Vec<u8>,
-) -> Result<usize, Memory>
-    requires open { end_data state.old.end ≡ Open }
-    requires some { 0 < length piece.now }
-    requires reads { ReaderWaits (S.meaning suite.now) reader.old }
-    ensures steps { IfOk result (λ used. Steps (setup_of (S.meaning suite.now) (D.policy decisions.now) config.now)
-        (input.Packets reader.old) (state_data state.old) (input.Packets reader.new) (state_data state.new) (take used piece.now) sent.old.items sent.new.items) }
-    ensures used { IfOk result (λ used. (0 < used) × (used ≤ length piece.now)) }
-    ensures reads { OnOk result (IsOngoing (end_data state.new.end) → ReaderWaits (S.meaning suite.now) reader.new) }
-    ensures kept { OnOk result (by_input (end_data state.new.end) ≡ true) }
-{
-    sshpacket::parser_by_law();
-    sshpacket::stream_law();
-    sshmsg::numbers_law();
-    sshneg::markers_law();
-    match reader.next(suite, piece) {
-        Ok(PacketStep::More) => Ok(piece.len()),
-        Ok(PacketStep::Payload { payload, seq, used }) => {
-            state.receive(config, suite, decisions, payload, seq, sent)?;
-            if let Some(keys) = state.take_keys() {
-                reader.use_keys(keys, state.strict);
-            }
-            Ok(used)
-        }
-        Err(fault) => {
-            let used = reader.taken();
-            fail_packet(state, config, suite, fault, sent)?;
-            Ok(used)
         }
     }
 }

@@ -3,3 +3,4 @@ pub mod PauseLemmas
 pub mod RequestLemmas
 pub mod SessionLemmas
 pub mod WorldLemmas
+pub mod ByHandLemmas

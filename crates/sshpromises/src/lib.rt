@@ -3,11 +3,13 @@
 //! clauses come to.
 #![tactic(auto)]
 
+mod by_hand;
 mod owned;
 mod pauses;
 mod sessions;
 mod worlds;
 
+pub use by_hand::run_by_hand;
 pub use pauses::{rested_client, rested_server};
 pub use sessions::{hand_over, handed_by_world, into_links, joined_by_hand};
 pub use worlds::{any_two, foretold, same_ends, schedule_ends, settled, settles_from_anywhere};

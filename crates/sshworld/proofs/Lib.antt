@@ -52,3 +52,4 @@ pub mod UserAcceptedLemmas
 pub mod CrosswiseLemmas
 pub mod EndpointPairs
 pub mod ReceiverLemmas
+pub mod WireLemmas

@@ -18,7 +18,7 @@ use Rattle.sshworld.specs.Deliveries.{BreaksOff}
 use Rattle.sshworld.specs.Nodes.{BrokenWith, IsFed, IsFresh, NodeStands, Receives, ReceivesInto, ReceivesNone, ReceivesSome, node_data}
 
 -- the first bytes of a part of a list
-take_within : (xs : List ℕ) (n u : ℕ) → u ≤ n → take u (take n xs) ≡ take u xs
+pub take_within : (xs : List ℕ) (n u : ℕ) → u ≤ n → take u (take n xs) ≡ take u xs
 take_within xs n zero h = refl
 take_within [] zero (suc u) h = absurd (omega arith)
 take_within [] (suc n) (suc u) h = refl

@@ -175,7 +175,7 @@ module _ {S D : Type 0} (meaning : S → SuiteData) (policy : D → DecisionsDat
   WorldAt Server own their = WorldStands meaning policy client_config server_config suite decisions their own
 
   -- A new world stands.
-  made_world : Laws → (client server : Node S D) → IsClient client_config → IsServer server_config
+  pub made_world : Laws → (client server : Node S D) → IsClient client_config → IsServer server_config
       → IsFresh meaning policy role.Client (config_of_client client_config) suite decisions client → IsFresh meaning policy role.Server (config_of_server server_config) suite decisions server
       → WorldStands meaning policy client_config server_config suite decisions client server
   made_world laws client server is_client is_server one other =

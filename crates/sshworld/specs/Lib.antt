@@ -27,6 +27,7 @@ pub mod Partners
 pub mod CourseReceived
 pub mod Joined
 pub mod WorldCourse
+pub mod Wire
 pub mod WorldRounds
 pub mod Greetings
 pub mod Receivers

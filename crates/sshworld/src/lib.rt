@@ -22,6 +22,7 @@ mod progress;
 mod session;
 mod session_laws;
 mod side;
+mod wire_laws;
 mod world;
 
 pub use course_laws::course_law;
@@ -33,4 +34,5 @@ pub use prediction::{predict, predict_with};
 pub use session_laws::session_law;
 pub use side::Delivery;
 pub use sshneg::Side;
+pub use wire_laws::wire_law;
 pub use world::World;

@@ -1,0 +1,25 @@
+use Rattle.std.proofs.Common.{rules, List, ℕ, subst}
+use Rattle.sshcore.specs.EndpointConfig.{config_data, role_of}
+use Rattle.sshcore.specs.Questions.{AnswerData, taken}
+use Rattle.sshcore.specs.QuestionsView.{answer_data}
+use Rattle.sshcore.specs.StateData.{state_data}
+use Rattle.sshcore.specs.Unread.{AnswerSteps}
+use Rattle.sshcore.specs.WaitingView.{waiting_data}
+use Rattle.sshcore.proofs.AskingLemmas.{always_decides}
+use Rattle.sshcore.proofs.asking_answer.answer_given.Goals as goal
+
+pub returns-clause-steps : goal.returns-clause-steps
+returns-clause-steps g c =
+    let m = g.S.Suite.meaning c.args.suite.now in
+    let role = role_of c.args.config.now in
+    let party = config_data c.args.config.now in
+    let w = waiting_data c.args.waiting.now in
+    let old = state_data c.args.state.now in
+    let last = state_data c.answer_packet.new.state in
+    let answer = answer_data c.args.answer in (
+      c.answer_packet.new.sent.items,
+      search rules,
+      subst (λ (l : List ℕ). AnswerSteps m role party (taken w.question answer) w c.args.input.now old c.answer_packet.new.input last l c.answer_packet.new.sent.items) c.new-sent.ensures.items
+          (subst (λ (a : AnswerData). AnswerSteps m role party a w c.args.input.now old c.answer_packet.new.input last c.new-sent.result.items c.answer_packet.new.sent.items) (always_decides answer w.question)
+          c.in_ok-answer_packet.ensures.steps),
+    )

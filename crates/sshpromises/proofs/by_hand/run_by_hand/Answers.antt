@@ -1,0 +1,34 @@
+use Rattle.std.proofs.lemmas.Result.{IfOk-weaker}
+use Rattle.std.specs.Prelude.{IsTrue}
+use Rattle.sshcore.specs.Endpoints.{endpoint_end}
+use Rattle.sshworld.specs.Headline.{Headline}
+use Rattle.sshworld.specs.Outcome.{outcome}
+use Rattle.sshpromises.specs.Claims.{CarriesOn}
+use Rattle.sshpromises.proofs.ByHandLemmas.{headline_by_hand}
+use Rattle.sshpromises.proofs.OwnedLemmas.{beside_ok}
+use Rattle.sshpromises.proofs.by_hand.run_by_hand.Goals as goal
+
+pub returns : goal.returns
+returns g c =
+    let m = g.S.Suite.meaning in
+    let d = g.D.Decisions.policy in
+    let client = c.args.client.now in
+    let server = c.args.server.now in
+    let suite = c.args.suite.now in
+    let decisions = c.args.decisions.now in
+    let ends = outcome (m suite) (d decisions) client server in
+    let two = c.in_ok-of_client-2 in
+    let done = c.carry-done in
+    record {
+      headline = beside_ok c.beside-2.result (λ both done. Headline ends (endpoint_end both.0) (endpoint_end both.1) (IsTrue done)) done.result (done.new.client, done.new.server)
+          c.beside-2.ensures.first c.beside-2.ensures.other
+          (IfOk-weaker done.result (λ all. CarriesOn m d two.of_client two.of_server c.client.new.out c.server-of_server.new.out done.new.client done.new.server (IsTrue all))
+          (λ all. Headline ends (endpoint_end done.new.client) (endpoint_end done.new.server) (IsTrue all))
+          (λ all carries. headline_by_hand m d client server suite decisions c.in_ok-of_client.of_client two.of_client done.new.client two.of_server done.new.server
+          c.server-of_server.result _ _ c.client.new.out c.server-of_server.new.out c.new-to_server.ensures.items c.new-to_client.ensures.items
+          two.ensures.first two.ensures.other c.in_ok-of_client.ensures.made c.server-of_server.ensures.made c.parts.ensures.accepted c.parts-2.ensures.accepted
+          (c.follows_law.ensures.understood (m suite) (d decisions) client server (g.met.S.AgreeingSuite.agrees suite) c.parts.ensures.accepted c.parts-2.ensures.accepted)
+          (c.wire_law.ensures.begins client server suite decisions two.of_client two.of_server c.client.new.out c.server-of_server.new.out)
+          (c.wire_law.ensures.ends client server suite decisions) (IsTrue all) carries)
+          done.ensures.carries);
+    }
