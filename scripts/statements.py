@@ -414,9 +414,11 @@ class Function:
         return [x[indent:] for x in shown]
 
     def whole(self):
-        """All of it, its body too."""
-        at = self.line - 1
-        return [*self.comment, *self.source.lines[at:self.source.end_of(at) + 1]]
+        """All of it, its body too, which ends by a brace below the head."""
+        lines, at = self.source.lines, self.line - 1
+        indent = lines[at][:len(lines[at]) - len(lines[at].lstrip())]
+        end = next(x for x in range(at, len(lines)) if lines[x] == indent + '}')
+        return [*self.comment, *lines[at:end + 1]]
 
     def names(self, wanted, book):
         """What these clauses name."""
