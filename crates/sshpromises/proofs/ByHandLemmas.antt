@@ -81,6 +81,6 @@ module _ {S D E : Type 0} (meaning : S → SuiteData) (policy : D → DecisionsD
       (carries.stay client_config server_config suite decisions (begins is_client is_server mc ms)) in
       record {
         as_given = h.as_given;
-        both_ended = λ all. h.both_ended (carries.all_done all);
-        together = λ all. h.together (carries.all_done all);
+        both_ended = λ all. h.both_ended (carries.all_done.0 all);
+        together = λ all. h.together (carries.all_done.0 all);
       }

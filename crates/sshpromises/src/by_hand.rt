@@ -1,6 +1,6 @@
 //! The headline over the calls of an endpoint alone.
 
-ghost use Rattle.std.specs.Prelude.{◌≡◌, ◌≤◌, ◌+◌, IfOk, IsTrue, drop, length, take};
+ghost use Rattle.std.specs.Prelude.{◌≡◌, ◌≤◌, ◌+◌, ◌↔◌, IfOk, IsTrue, drop, length, take};
 ghost use Rattle.sshcore.specs.EndData.{Open};
 ghost use Rattle.sshcore.specs.Endpoints.{endpoint_end};
 ghost use Rattle.sshworld.specs.Headline.{Headline};
@@ -101,7 +101,7 @@ fn next_of(sent: &[u8], used: usize, count: usize) -> &[u8]
 
 /// Whether an endpoint has ended, or has used all of these bytes.
 fn is_done<S: Suite, D: Decisions>(endpoint: &Endpoint<'_, S, D>, sent: &[u8], used: usize) -> bool
-    ensures { IsTrue result → endpoint_end endpoint.now ≡ Open → used ≡ length sent.now }
+    ensures { IsTrue result ↔ (endpoint_end endpoint.now ≡ Open → used ≡ length sent.now) }
 {
     match endpoint.end() {
         End::Open => used == sent.len(),

@@ -1,4 +1,4 @@
-use Rattle.std.proofs.Common.{◌≡◌, ◌∙◌, ◌+◌, ◌≤◌, List, ℕ, ap, arith, length, subst}
+use Rattle.std.proofs.Common.{◌≡◌, ◌∙◌, ◌+◌, ◌≤◌, List, ℕ, ap, arith, length, subst, sym}
 use Rattle.std.specs.Prelude.{IsTrue}
 use Rattle.sshworld.specs.Wire.{UsesMore}
 use Rattle.sshpromises.specs.Claims.{wire_end}
@@ -50,11 +50,17 @@ returns g c =
         server_used = l.used_by_server;
         stay = l.invariant.stay;
         all_done = elim c.if-is_done.branch [
-          | then-is_done w ↦ λ done. record {
-            client_all = λ o. c.is_done.ensures w.if-is_done.true o ∙ ap length c.deref-2.ensures.value;
-            server_all = λ o. w.is_done-then-is_done.ensures (subst IsTrue w.result-is done) o ∙ ap length w.deref-then-is_done.ensures.value;
-          }
-          | else-is_done w ↦ λ done. absurd (cc (w.result-is, done))
+          | then-is_done w ↦ (
+            λ done. record {
+              client_all = λ o. c.is_done.ensures.0 w.if-is_done.true o ∙ ap length c.deref-2.ensures.value;
+              server_all = λ o. w.is_done-then-is_done.ensures.0 (subst IsTrue w.result-is done) o ∙ ap length w.deref-then-is_done.ensures.value;
+            },
+            λ all. subst IsTrue (sym w.result-is) (w.is_done-then-is_done.ensures.1 (λ o. all.server_all o ∙ ap length (sym w.deref-then-is_done.ensures.value))),
+          )
+          | else-is_done w ↦ (
+            λ done. absurd (cc (w.result-is, done)),
+            λ all. let e = c.is_done.ensures.1 (λ o. all.client_all o ∙ ap length (sym c.deref-2.ensures.value)) in absurd (cc (w.if-is_done.false, e)),
+          )
         ];
       };
     }
