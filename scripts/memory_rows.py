@@ -6,6 +6,8 @@ next call: `row NAME: line N: STANDS; said BYTES`, or `row NAME: no value` where
 import os
 import re
 
+from kit import rows_written
+
 TOP = os.path.dirname(os.path.dirname(os.path.realpath(__file__)))
 UNJUDGED = (3, b'', b'out of memory\n')
 VECTOR, NO_VALUE = 'the vector as it was', 'no value'
@@ -90,7 +92,8 @@ class Row:
 
 
 def rows():
-    """All rows, each read from its file."""
+    """All rows, each read from its file, which is written where it lacks."""
+    rows_written(ROWS)
     for file, wanted in ROWS.items():
         for name, stands in wanted:
             yield Row(file, name, stands)

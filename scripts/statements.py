@@ -62,10 +62,10 @@ def imports_of(lines):
 class Statement:
     """A definition or an item, word for word, with the place where it stands."""
 
-    def __init__(self, file, name, comment, lines, head=None, after=None):
+    def __init__(self, file, name, comment, lines, head=None, line=0, is_definition=False):
         self.file, self.name, self.comment, self.lines = file, name, comment, lines
-        # the parameters that stand in front of it, and the definition whose comment is its own too
-        self.head, self.after = head, after
+        # the parameters that stand in front of it, its line in a file of specs/, and whether it is a definition there, not a lemma
+        self.head, self.line, self.is_definition = head, line, is_definition
 
     @property
     def is_code(self):
@@ -83,12 +83,11 @@ class Spec:
         with open(f'{root}/crates/{path}', encoding='utf-8') as file:
             self.lines = file.read().rstrip('\n').split('\n')
         self.imports, self.aliases = imports_of(self.lines)
-        # what of it a row of a page may tell, {name: (line, kind)}
-        self.found, self.owner, self.public = {}, {}, {}
+        self.found, self.owner = {}, {}
         self.read()
 
     def read(self):
-        comment, head, level, above, current, kind = [], None, 0, None, None, ''
+        comment, head, level, current, kind = [], None, 0, None, ''
         for number, line in enumerate(self.lines, 1):
             text, indent = line.strip(), len(line) - len(line.lstrip())
             if line.startswith('module '):
@@ -105,18 +104,14 @@ class Spec:
                     head = None
                 comment, current = comment + [line[level:]], None
             elif indent == level and (m := START.match(text)) and m['name'] not in ('mod', 'use'):
-                current = Statement(self, m['name'], comment, [line[level:]], head, None if comment else above)
-                above = current if comment else above
+                kind = m['how'] or m['kind'] or ''
+                current = Statement(self, m['name'], comment, [line[level:]], head, number, bool(kind))
                 self.found[m['name']] = current
-                kind = m['how'] if m['how'] in ('abbrev', 'unfoldable') else m['kind'] or ''
-                if m['public']:
-                    self.public.setdefault(m['name'], (number, kind))
                 comment = []
             elif current and not re.match(r'use |pub mod |infix', text):
                 current.lines.append(line[level:])
                 if kind == 'data' and (m := re.match(r'\s+(?:pub )?([^\s:]+)\s*:', line)):
                     self.owner.setdefault(m[1], current)
-                    self.public.setdefault(m[1], (number, f'case of {current.name}'))
             elif not re.match(r'use |pub mod |infix', text):
                 raise Wrong(f'{self.path}:{number}: this belongs to no definition: {text}')
         for it in self.found.values():
@@ -132,10 +127,6 @@ class Spec:
         for text, bound in segments(it):
             found += book.resolve(text, self.imports, self.aliases, self, bound)
         return found
-
-    def said_of(self, it):
-        """The comment above the definition before it, where it has none of its own."""
-        return ' '.join(x.lstrip('- ') for x in it.after.comment) if it.after else None
 
 
 def bound_by(text):

@@ -216,7 +216,7 @@ class Deployed:
         return u32(ciphers.head(keys, number, first))
 
 
-class Party:
+class Config:
     """What of a config and its suite a record is judged by. An attempt is its user, its service and its proof: None, the bytes of a password,
     or an algorithm, the private key, and whether it is asked about first."""
 
@@ -233,29 +233,29 @@ class Party:
         return left
 
 
-def reads(text, party):
+def reads(text, config):
     """What the bytes make that are taken for a record: `v`, another version; `u`, no record; `m`, an endpoint with this record."""
     if len(text) >= 4 and text[:4] != u32(VERSION):
         return "v"
     try:
-        return "m" if fits(Text(text).record(), party) else "u"
+        return "m" if fits(Text(text).record(), config) else "u"
     except Unreadable:
         return "u"
 
 
-def fits(r, party):
+def fits(r, config):
     """Whether an endpoint with this config and this suite may have what stands in the record."""
     exchanged, chosen = r.phase >= 2, r.phase >= 1
-    if r.role != party.role or (r.algorithms is not None) != chosen or r.keys and not exchanged:
+    if r.role != config.role or (r.algorithms is not None) != chosen or r.keys and not exchanged:
         return False
-    if chosen and r.form != party.suite.form(r.algorithms[0]):
+    if chosen and r.form != config.suite.form(r.algorithms[0]):
         return False
     if r.lines:
         reads_on = len(r.lines[1]) < LINE_LIMIT and not set(r.lines[1]) & {0, 10}
     else:
-        reads_on = is_unfinished(party.suite, *r.packets)
+        reads_on = is_unfinished(config.suite, *r.packets)
     idle = r.lines is None and r.packets[2] == b""
-    return reads_on and r.missing == r.wanted(party.suite) and (r.waiting is None or idle and asks(r, party, r.waiting[1]))
+    return reads_on and r.missing == r.wanted(config.suite) and (r.waiting is None or idle and asks(r, config, r.waiting[1]))
 
 
 def whole_len(suite, keys, number, held):
@@ -286,10 +286,10 @@ def has_place(r, number, waits):
     return r.phase == 4 and r.role == CLIENT and (number == 51 or waits and number == 60)
 
 
-def asks(r, party, payload):
+def asks(r, config, payload):
     """Whether a packet with this payload asks something."""
     forms = {6: "s", 30: "m", 31: "sms", 50: "*", 51: "lb", 60: "ss"} if r.form == MPINT else {6: "s", 30: "s", 31: "sss", 50: "*", 51: "lb", 60: "ss"}
-    number, left = payload[0] if payload else None, party.left(r)
+    number, left = payload[0] if payload else None, config.left(r)
     if number not in forms or not has_place(r, number, bool(left) and is_query(left[0])):
         return False
     fields = fields_of(payload, forms)
@@ -299,20 +299,20 @@ def asks(r, party, payload):
         return True
     if number == 30:
         algorithm = r.algorithms[1]
-        return party.suite.responds(r.algorithms[0], fields[0]) and not party.suite.holds(algorithm, party.host_keys.get(algorithm, b""))
+        return config.suite.responds(r.algorithms[0], fields[0]) and not config.suite.holds(algorithm, config.host_keys.get(algorithm, b""))
     if number == 50:
-        return request_asks(r, party, payload)
+        return request_asks(r, config, payload)
     if number == 51:
         listed = fields[0].decode().split(",") if fields[0] else []
         later = left[1:]
         while later and method_of(later[0]) not in listed:
             later = later[1:]
-        return attempt_asks(party, later)
+        return attempt_asks(config, later)
     if number == 6:
-        return fields[0] == b"ssh-userauth" and attempt_asks(party, left)
+        return fields[0] == b"ssh-userauth" and attempt_asks(config, left)
     algorithm, key = fields
     proof = left[0][2]
-    return algorithm == proof[0].encode() and key == party.suite.blob(*proof[:2]) and not party.suite.holds(*proof[:2])
+    return algorithm == proof[0].encode() and key == config.suite.blob(*proof[:2]) and not config.suite.holds(*proof[:2])
 
 
 def is_query(attempt):
@@ -324,20 +324,20 @@ def method_of(attempt):
     return "none" if proof is None else "password" if isinstance(proof, bytes) else "publickey"
 
 
-def attempt_asks(party, left):
+def attempt_asks(config, left):
     """Whether the first of these attempts asks for its signature when it is made."""
     proof = left[0][2] if left else None
-    return isinstance(proof, tuple) and not proof[2] and not party.suite.holds(*proof[:2])
+    return isinstance(proof, tuple) and not proof[2] and not config.suite.holds(*proof[:2])
 
 
-def request_asks(r, party, payload):
+def request_asks(r, config, payload):
     """Whether a request asks (RFC 4252 sections 5 to 8)."""
     text = Text(payload[1:])
     try:
         text.utf8()
         service_name, method = text.bytes(), text.bytes()
         if method == b"none":
-            return not text.rest and in_list(service_name, party.services)
+            return not text.rest and in_list(service_name, config.services)
         if method not in (b"password", b"publickey"):
             return False
         flag = text.take(1) != b"\x00"
@@ -347,12 +347,12 @@ def request_asks(r, party, payload):
             text.bytes()
     except Unreadable:
         return False
-    if text.rest or not in_list(service_name, party.services) or not in_list(method, party.methods):
+    if text.rest or not in_list(service_name, config.services) or not in_list(method, config.methods):
         return False
     if method == b"password":
         return not flag
-    named = is_name(algorithm) and party.suite.can_sign(algorithm.decode())
-    return named and (flag or r.request < party.tries and len(key) <= BLOB_LIMIT)
+    named = is_name(algorithm) and config.suite.can_sign(algorithm.decode())
+    return named and (flag or r.request < config.tries and len(key) <= BLOB_LIMIT)
 
 
 def in_list(name, names):
@@ -370,7 +370,7 @@ def runs(letters):
     return "".join("%d%s" % (count, letter) for count, letter in out)
 
 
-def spoilt(record, mask, party):
+def spoilt(record, mask, config):
     """What the record makes with each of its bytes changed by the mask in turn."""
     changed = (record[:at] + bytes([byte ^ mask]) + record[at + 1:] for at, byte in enumerate(record))
-    return runs(reads(text, party) for text in changed)
+    return runs(reads(text, config) for text in changed)

@@ -7,7 +7,7 @@ import paused
 from asking import answer, host_key, of_key, of_password, user
 from ctr_sessions import ALL, ALGORITHM, ETM, GCM, METHOD, PLAIN, CipherTalk
 from deployed_sessions import CIPHER, KEY, DeployedTalk
-from paused import Deployed, Elsewhere, Lab, Party, Record, reads, spoilt
+from paused import Deployed, Elsewhere, Lab, Config, Record, reads, spoilt
 from requests import FAILURE, LET_IN, half
 from signatures import by_signature, input_of, to_sign
 
@@ -25,11 +25,11 @@ def tries(plan):
     return ["client try %s %s %s" % (name, service_name, TRIES[name, service_name, proof]) for name, service_name, proof in plan]
 
 
-def judged(r, party):
+def judged(r, config):
     """The record, and what it makes where it is spoilt."""
     text = r.text()
-    assert reads(text, party) == "m"
-    return ["record " + text.hex(), ["spoilt %02x %s" % (mask, spoilt(text, mask, party)) for mask in MASKS], "cuts"]
+    assert reads(text, config) == "m"
+    return ["record " + text.hex(), ["spoilt %02x %s" % (mask, spoilt(text, mask, config)) for mask in MASKS], "cuts"]
 
 
 def names(t):
@@ -124,28 +124,28 @@ def at_rest(file):
     for role, course in ((CLIENT, client), (SERVER, server)):
         for place in ("at its making", "behind NEWKEYS"):
             t = Talk(strict=place != "behind NEWKEYS" or role == CLIENT)
-            party = Party(role, plan=[NONE] if role == CLIENT else ())
+            config = Config(role, plan=[NONE] if role == CLIENT else ())
             lines, r = steps_of(course(t), place)
-            file.row("a %s is spoilt %s" % (role, place), t.lines(), tries([NONE]), "waiting " + role, lines, judged(r, party), "end open")
+            file.row("a %s is spoilt %s" % (role, place), t.lines(), tries([NONE]), "waiting " + role, lines, judged(r, config), "end open")
     t = Talk(guess=True, crossed=True)
     lines, r = steps_of(server(t), "behind KEXINIT")
-    file.row("a server is spoilt before a wrong guess", t.lines(), "waiting server", lines, judged(r, Party(SERVER)), feed(t.guessed), "says -", "end open")
+    file.row("a server is spoilt before a wrong guess", t.lines(), "waiting server", lines, judged(r, Config(SERVER)), feed(t.guessed), "says -", "end open")
 
 
 def within(file):
     """An endpoint within a line, and within a packet, in clear and sealed."""
     t = Talk()
     r = Record(CLIENT, 1, lines=(19, b"SSH-2.0-l"))
-    file.row("a client is spoilt within a line", tries([NONE]), "waiting client", says(t.c_first), feed(b"hello\r\nSSH-2.0-l"), judged(r, Party(CLIENT, plan=[NONE])),
+    file.row("a client is spoilt within a line", tries([NONE]), "waiting client", says(t.c_first), feed(b"hello\r\nSSH-2.0-l"), judged(r, Config(CLIENT, plan=[NONE])),
              feed(b"ab_1\r\n"), "says -", record(Record(CLIENT, 1, lines=None, packets=(None, 0, b""), version=TEXT)), "end open")
     packet_ = t.c_first[len(LINE):]
     for n in (3, 20):
         r = Record(SERVER, lines=None, packets=(None, 0, packet_[:n]), version=TEXT)
-        file.row("a server is spoilt within a packet, behind %d bytes" % n, "waiting server", says(t.s_first), feed(LINE, packet_[:n]), judged(r, Party(SERVER)),
+        file.row("a server is spoilt within a packet, behind %d bytes" % n, "waiting server", says(t.s_first), feed(LINE, packet_[:n]), judged(r, Config(SERVER)),
                  feed(packet_[n:]), "says -", feed(t.c_init), says(t.s_reply, t.s_newkeys), "end open")
     lines, r = steps_of(client(t), "behind NEWKEYS")
     r.put(packets=(t.sc, 0, t.s_accept[:21]))
-    file.row("a client is spoilt within a sealed packet", tries([NONE]), "waiting client", lines, feed(t.s_accept[:21]), judged(r, Party(CLIENT, plan=[NONE])),
+    file.row("a client is spoilt within a sealed packet", tries([NONE]), "waiting client", lines, feed(t.s_accept[:21]), judged(r, Config(CLIENT, plan=[NONE])),
              feed(t.s_accept[21:]), says(half(t.c).send(by_none())), "end open")
 
 
@@ -153,7 +153,7 @@ def asking(file):
     """A client at a host key question, and a server at questions on requests."""
     t = Talk()
     lines, r = steps_of(client(t), "at the host key question")
-    file.row("a client is spoilt at the host key question", tries([NONE]), "waiting client", lines, judged(r, Party(CLIENT, plan=[NONE])), host_key(), answer(True),
+    file.row("a client is spoilt at the host key question", tries([NONE]), "waiting client", lines, judged(r, Config(CLIENT, plan=[NONE])), host_key(), answer(True),
              says(t.c_newkeys, t.c_service), "verified 1", "end open")
     payloads = {"nothing": (by_none(), "none"), "a password": (by_password(b"\x00"), of_password(b"\x00")), "a key": (by_key(t.hash), of_key()),
                 "a query": (by_query(), of_key())}
@@ -162,7 +162,7 @@ def asking(file):
         lines, r = steps_of(server(t))
         lines += [feed(c.send(by_password(b"\x01"))), user(1, of_password(b"\x01")), answer(False), says(s.send(FAILURE)), feed(c.send(payload)), user(2, asks)]
         r.put(request=2, number=s.seq, packets=(t.cs, c.seq, b""), waiting=(c.seq - 1, payload))
-        file.row("a server is spoilt at a question on %s" % name, "waiting server", lines, judged(r, Party(SERVER)), user(2, asks), answer(True),
+        file.row("a server is spoilt at a question on %s" % name, "waiting server", lines, judged(r, Config(SERVER)), user(2, asks), answer(True),
                  says(s.send(pk_ok() if name == "a query" else SUCCESS)), "end " + ("open" if name == "a query" else LET_IN))
 
 
@@ -177,7 +177,7 @@ def in_authentication(file):
         lines += [feed(c.send(first)), user(1, asks[0]), answer(True), says(s.send(failure(partial=1)))]
         r.put(request=2, number=s.seq, packets=(t.cs, c.seq, b""), user=b"al", service=b"ssh-connection")
         r.put(**({"password": True} if name == "a password" else {"publickey": True, "user_key": (b"h", BLOB)}))
-        file.row("a server is spoilt behind %s, one of two methods" % name, both, "waiting server", lines, judged(r, Party(SERVER)), feed(c.send(second)),
+        file.row("a server is spoilt behind %s, one of two methods" % name, both, "waiting server", lines, judged(r, Config(SERVER)), feed(c.send(second)),
                  user(2, asks[1]), answer(True), says(s.send(SUCCESS)), "end " + LET_IN)
     plan = [PASSWORD, QUERY, NONE]
     c, s = half(t.c), half(t.s)
@@ -185,10 +185,10 @@ def in_authentication(file):
     c.send(by_password(b"\x00"))
     lines += [feed(s.send(FAILURE)), says(c.send(by_query()))]
     r.put(confirmed=False, left=2, number=c.seq, packets=(t.sc, s.seq, b""))
-    party = Party(CLIENT, plan=plan)
-    lines += [judged(r, party), feed(s.send(pk_ok())), says(c.send(by_key(t.hash)))]
+    config = Config(CLIENT, plan=plan)
+    lines += [judged(r, config), feed(s.send(pk_ok())), says(c.send(by_key(t.hash)))]
     file.row("a client is spoilt while its query waits", tries(plan), "waiting client", lines,
-             judged(r.put(confirmed=True, number=c.seq, packets=(t.sc, s.seq, b"")), party), "end open")
+             judged(r.put(confirmed=True, number=c.seq, packets=(t.sc, s.seq, b"")), config), "end open")
 
 
 def signing(file):
@@ -206,14 +206,14 @@ def signing(file):
     refused = s.send(failure(("publickey",)))
     r.put(packets=(t.sc, s.seq, b""), waiting=(s.seq - 1, failure(("publickey",))))
     file.row("a client is spoilt at a question for a signature", setting, "waiting client elsewhere", lines, feed(refused), question.words,
-             judged(r, Party(CLIENT, Elsewhere, plan)), question.words, question.reply, says(c.send(by_signature(signature))), "signed 0", "end open")
+             judged(r, Config(CLIENT, Elsewhere, plan)), question.words, question.reply, says(c.send(by_signature(signature))), "signed 0", "end open")
     # a server's
-    party = Party(SERVER, Elsewhere, private=BLOB)
+    config = Config(SERVER, Elsewhere, private=BLOB)
     lines, r = steps_of(server(t), "behind KEXINIT")
     question = to_sign(0, t.hash, sign("h", b"\x00", t.hash))
     r.put(packets=(None, 2, b""), waiting=(1, INIT))
     file.row("a server is spoilt at a question for a signature", "server hostkey h " + hexa(BLOB), "waiting server elsewhere", lines, feed(t.c_init), question.words,
-             "responded 1", "digested 1", judged(r, party), "responded 0", "digested 0", question.words, question.reply, says(t.s_reply, t.s_newkeys), "end open")
+             "responded 1", "digested 1", judged(r, config), "responded 0", "digested 0", question.words, question.reply, says(t.s_reply, t.s_newkeys), "end open")
 
 
 def over_deployed(file):
@@ -227,7 +227,7 @@ def over_deployed(file):
                host_key=KEY, keys=keys[SERVER], number=s.seq, lines=None, packets=(keys[CLIENT], c.seq - 1, request_[:21]), suite=Deployed)
     setting = ["server %s %s" % x for x in (("kex", "curve25519-sha256"), ("hostkey", "ssh-ed25519 " + bytes(range(32)).hex()), ("cipher_cs", CIPHER), ("cipher_sc", CIPHER))]
     file.row("a server over deployed algorithms is spoilt within a sealed packet", setting, "waiting server deployed", feed(t.c_first, t.c_init, t.c_newkeys, t.c_service),
-             says(t.s_first, t.s_reply, t.s_newkeys, t.s_accept), feed(request_[:21]), judged(r, Party(SERVER, Deployed)), feed(request_[21:]), user(1, "none"),
+             says(t.s_first, t.s_reply, t.s_newkeys, t.s_accept), feed(request_[:21]), judged(r, Config(SERVER, Deployed)), feed(request_[21:]), user(1, "none"),
              answer(True), says(s.send(SUCCESS)), "end " + LET_IN)
 
 
@@ -266,7 +266,7 @@ def of_ctr(file, way, strict, is_spoilt):
         request_ = c.send(payload)
         lines += [feed(request_[:5]), record(own.put(packets=(before, seq, request_[:5])))]
         if n == 2 and is_spoilt:
-            lines += judged(own, Party(SERVER, Deployed))
+            lines += judged(own, Config(SERVER, Deployed))
         lines += [feed(request_[5:]), user(n, of_password(payload[-1:])), record(own.put(packets=(c.keys, c.seq, b""), waiting=(seq, payload)))]
         client += [feed(heard), says(request_), record(of_client.put(phase=4, left=3 - n, keys=c.keys, number=c.seq, packets=(s.keys, s.seq, b"")))]
         before, seq = s.keys, s.seq
@@ -284,10 +284,10 @@ def others(file):
     """Records of other endpoints, versions and configs, and bytes that no endpoint has written."""
     t = Talk()
     for role, course in ((CLIENT, client(t, [PASSWORD, QUERY])), (SERVER, server(t))):
-        party, lines = Party(role, plan=[PASSWORD, QUERY] if role == CLIENT else ()), []
+        config, lines = Config(role, plan=[PASSWORD, QUERY] if role == CLIENT else ()), []
 
         def takes(*records):
-            return ["takes %s %s" % (reads(text, party), hexa(text)) for text in records]
+            return ["takes %s %s" % (reads(text, config), hexa(text)) for text in records]
 
         seen = [(place, copy.deepcopy(r)) for place, _, _, _, r in course]
         for _, r in seen:

@@ -3,7 +3,7 @@ import aes_ctr
 import aes_gcm
 from lab import *
 from requests import half
-from paused import Party, Record, spoilt
+from paused import Config, Record, spoilt
 from sealing import wrong_going
 from signatures import KEY, by_signature, input_of, tries
 
@@ -141,7 +141,7 @@ def signatures(file, t):
 
 def records(file, t):
     """Records of an endpoint that has received nothing."""
-    start, party, end = ["waiting server", says(t.s_first)], Party(SERVER), "end open"
+    start, config, end = ["waiting server", says(t.s_first)], Config(SERVER), "end open"
     text = Record(SERVER).text()
     right, other_ = "record " + text.hex(), text[:-1] + b"\x01"
     file.row("the record has a bit more", start, "record " + other_.hex(), end)
@@ -153,15 +153,15 @@ def records(file, t):
     file.row("a line stands behind no record", start, "cut", "end failed F16", "record none", "end failed F16")
     file.row("nothing is handed over behind no record", start, "cut", "end failed F16", "record none", "session none")
     for mask in (0x01, 0x80):
-        found = spoilt(text, mask, party)
+        found = spoilt(text, mask, config)
         for name, wanted in (("all are refused", "%du" % len(text)), ("all are taken", "%dm" % len(text)), ("another version is no record", found.replace("v", "u", 1)),
                              ("one place less", found[:-2] + "7u"), ("one place more", found + "1u"), ("other records", found.replace("m", "o")), ("nothing", "")):
             if wanted != found:
                 file.row("a record spoilt by %02x: %s" % (mask, name), start, ("spoilt %02x %s" % (mask, wanted)).rstrip(), end)
         file.row("a record spoilt by %02x is as by another mask" % mask, start, "spoilt %02x %s" % (mask ^ 0x81, found), end)
     for what in ("0101", "-", "x"):
-        file.row("a mask that is no byte: %s" % what, start, "spoilt %s %s" % (what, spoilt(text, 1, party)), end)
-    file.row("what has ended is spoilt", start, "cut", "end failed F16", "spoilt 01 " + spoilt(text, 1, party))
+        file.row("a mask that is no byte: %s" % what, start, "spoilt %s %s" % (what, spoilt(text, 1, config)), end)
+    file.row("what has ended is spoilt", start, "cut", "end failed F16", "spoilt 01 " + spoilt(text, 1, config))
     file.row("what has ended is cut", start, "cut", "end failed F16", "cuts")
     file.row("a server takes a client's record", start, "takes m " + Record(CLIENT).text().hex(), end)
     file.row("a client refuses its own record", "waiting client", says(t.c_first), "takes u " + Record(CLIENT).text().hex(), end)
@@ -170,7 +170,7 @@ def records(file, t):
         file.row("a record of version %d is unreadable" % version, start, "takes u " + (u32(version) + text[4:]).hex(), end)
         file.row("a record of version %d is taken" % version, start, "takes m " + (u32(version) + text[4:]).hex(), end)
     file.row("three bytes are of another version", start, "takes v 000000", end)
-    for word in (right, "spoilt 01 " + spoilt(text, 1, party), "cuts", "takes m " + text.hex()):
+    for word in (right, "spoilt 01 " + spoilt(text, 1, config), "cuts", "takes m " + text.hex()):
         file.row("%s at one whose decisions answer" % word.split(" ")[0], "begin server", says(t.s_first), word, end)
 
 

@@ -1,16 +1,18 @@
-"""Writes the claim pages, docs/claims/NAME.md, from the sources: each has the public clauses that promise something, and
-every definition on which they rest, word for word.
+"""Writes the claim pages from the sources: each has the public clauses that promise something, and every definition on which
+they rest, word for word. Those of KEPT are docs/claims/NAME.md; `scripts/pages --print claims NAME` prints each.
 
 After the clauses come the parts of a page: what the clauses themselves say, then what stands below that, put off by PAGES.
 Within a part the layers stand from the top to the bottom, and in a layer each definition where a reader first meets its name.
 None stands twice on a page. What a name leads to tells scripts/statements.py.
 
-Each page has to be what would be written now, no other page may stand in docs/claims, and docs/AUDIT.md has to link each. Pages are
-counted.
+docs/claims/names.txt has the names of each page's definitions, file by file: so a review shows what more has to be believed.
+
+Each page of KEPT and the names have to be what would be written now, git may have no other page in docs/claims, and docs/AUDIT.md has to
+link each page of KEPT and to have the command that prints each other. Pages are counted, and the names of each.
 """
 import os
 
-from pages_parts import ROOT, found, read, write_to
+from pages_parts import ROOT, files, read, write_to
 from statements import Wrong
 
 LAYERS = {
@@ -46,11 +48,11 @@ PAGES = {
     'headline': Page('The headline', """
 **To whom:** those who run a client and a server of this project against each other over a faithful wire, and those who want to know whether two configs fit.
 
-**What:** take a client and a server with accepted configs, one suite of algorithms and the same decisions. Deliver what each sends to the other, in order, in any pieces, as `run_by_hand` does over two vectors; its whole code is below. Then each side that has ended has the end that one function of configs, suite and decisions gives (`outcome`). If each has ended or used all that the other has sent, both have ended, and one is authenticated exactly if the other is, with the same that was agreed.
+**What:** take a client and a server with accepted configs, one suite of algorithms and the same decisions. Deliver what each sends to the other, in order, in any pieces, as `run_by_hand` does over two vectors; its whole code is below. Then each side that has ended has the end that one function of configs, suite and decisions gives (`outcome`). If each has ended or used all that the other has sent, both have ended, and one is authenticated if and only if the other is, with the same that was agreed.
 
 **What you have to believe:** that the code below is what a wire does, that `outcome` is what you want, and that a suite has its laws. `Endpoint`, `ClientConfig` and `ServerConfig` are opaque here: `endpoint_end` is what `end()` of an endpoint returns, and the data of a config are its parts, as [the endpoint's theorem](endpoint.md) has them. Of the functions after `run_by_hand` read the code: their clauses are for the prover. That the schedule is followed is in the code alone; for a `World` it is a clause (`ran`). [What is asked of a suite](suite.md) has a page of its own.
 
-**Premises:** neither side ran out of memory, else the function returns `Memory`. All ends of the suite agree and hold and sign by all keys (`AgreeingSuite`). Decisions are a function of what they are asked (`Decisions`). No premise is on `reading`: each side may read the other's version line strictly or as deployed peers write it. For a suite whose ends don't all agree, and for worlds that go on, see [two endpoints and the bytes between them](world.md).
+**Premises:** neither side ran out of memory, else the function returns `Memory`. By the suite any two endpoints come to one shared secret, every private key is held, and every signature verifies (`AgreeingSuite`). Decisions are a function of what they are asked (`Decisions`). No premise is on `reading`: each side may read the other's version line strictly or as deployed peers write it. For another suite, such as `DeployedSuite`, and for worlds that go on, see the claim page that `scripts/pages --print claims world` prints.
 """, [
         ('sshpromises/src/by_hand.rt', 'run_by_hand', ['headline']),
         ('sshpromises/src/by_hand.rt', 'carry', []),
@@ -71,17 +73,17 @@ PAGES = {
 
 **What:** take a client and a server with accepted configs, one suite of algorithms and the same decisions. Deliver what each sends to the other, in order, in any pieces. Then each side that has ended has the end that one function of configs, suite and decisions gives (`outcome`); where nothing waits for either, both have ended, and one is authenticated exactly if the other is, with the same that was agreed. So many rounds as the client's plan needs bring two sides there.
 
-**Premises:** neither side ran out of memory (`HadMemory`), and the two configs understand each other (`AreUnderstood`): the chosen method comes to one shared secret, and the server's host key and each key of the client's plan are held by the suite and sign. Over a suite of which all ends agree any two do (`follows_law`), and `schedule_ends` asks for no more than such a suite and for memory. The suite keeps the laws of one end (`IsLawful`), and decisions are a function of what they are asked. No premise is on `reading`: each side may read the other's version line strictly or as deployed peers write it, both alike or not.
+**Premises:** neither side ran out of memory (`HadMemory`), and the two configs understand each other (`AreCompatible`): the chosen method comes to one shared secret, and the server's host key and each key of the client's plan are held by the suite and sign. Over a suite of which all ends agree any two do (`follows_law`), and `schedule_ends` asks for no more than such a suite and for memory. The suite keeps the laws of one end (`IsLawful`), and decisions are a function of what they are asked. No premise is on `reading`: each side may read the other's version line strictly or as deployed peers write it, both alike or not.
 """, [
         ('sshpromises/src/worlds.rt', 'same_ends', ['client', 'server', 'together', 'ended']),
-        ('sshpromises/src/worlds.rt', 'schedule_ends', ['client_config', 'server_config', 'suite', 'decisions', 'ran', 'memory', 'understood', 'ends']),
+        ('sshpromises/src/worlds.rt', 'schedule_ends', ['client_config', 'server_config', 'suite', 'decisions', 'ran', 'memory', 'compatible', 'ends']),
         ('sshworld/src/world.rt', 'World::ends', ['client', 'server', 'holds']),
         ('sshworld/src/world.rt', 'World::complete', ['complete']),
         ('sshworld/src/world.rt', 'World::settle', ['holds', 'bound']),
         ('sshworld/src/world.rt', 'World::new', ['client_config', 'server_config', 'suite', 'decisions', 'start', 'holds']),
         ('sshworld/src/world.rt', 'World::deliver', ['count', 'delivered', 'ended', 'setup', 'holds']),
-        ('sshworld/src/following.rt', 'follows_law', ['understood']),
-    ], [('What the two configs come to', ['outcome'], 'The outcome as a function of both configs, the suite and the decisions.'), ('What the two configs have to have in common', ['AreUnderstood', 'IsAgreeing']),
+        ('sshworld/src/following.rt', 'follows_law', ['compatible']),
+    ], [('What the two configs come to', ['outcome'], 'The outcome as a function of both configs, the suite and the decisions.'), ('What the two configs have to have in common', ['AreCompatible', 'IsAgreeing']),
         ('What configs are accepted', ['IsClient', 'IsServer']), ('That the world is only a wire', ['Delivered', 'IsSameSetup']), RECEIVED]),
     'endpoint': Page('The endpoint\'s theorem', """
 **To whom:** those who feed an endpoint of this project with what any peer sends, in whatever pieces it comes.
@@ -152,7 +154,7 @@ PAGES = {
 
 **What:** two endpoints that both ended authenticated have each received all that the other sent, and agreed on the same (`received`). What they hand over matches crosswise (`AreCrosswise`): the keys and the number with which either goes on to send are those with which the other goes on to receive; both have one host key, and the version line of either is what the other has of its peer. Of a world both sessions are handed over (`sessions`). The links that are made of them are linked (`into_links`): what either seals, the other opens (`link_law`).
 
-**Premises:** what either has received is a prefix of what the other has sent, whatever carried it (`AreJoined`), and the two configs understand each other (`AreUnderstood`). The suite keeps the laws of one end (`IsLawful`), and both have the same decisions. No premise is on `reading`: either may read the other's version line by either form.
+**Premises:** what either has received is a prefix of what the other has sent, whatever carried it (`AreJoined`), and the two configs understand each other (`AreCompatible`). The suite keeps the laws of one end (`IsLawful`), and both have the same decisions. No premise is on `reading`: either may read the other's version line by either form.
 """, [
         ('sshpromises/src/sessions.rt', 'hand_over', ['-']),
         ('sshpromises/src/sessions.rt', 'handed_by_world', ['-']),
@@ -160,9 +162,14 @@ PAGES = {
         ('sshworld/src/session_laws.rt', 'session_law', ['received', 'crosswise', 'worlds']),
         ('sshworld/src/world.rt', 'World::into_sessions', ['sessions', 'none']),
         ('sshcore/src/endpoint.rt', 'Endpoint::into_session', ['session', 'none']),
-    ], [('What a session is', ['IsSession']), ('What the two configs have to have in common', ['AreUnderstood', 'IsAgreeing']),
+    ], [('What a session is', ['IsSession']), ('What the two configs have to have in common', ['AreCompatible', 'IsAgreeing']),
         ('What configs are accepted', ['IsClient', 'IsServer']), RECEIVED]),
 }
+
+
+KEPT = ['headline', 'suite', 'endpoint']
+NAMES = 'docs/claims/names.txt'
+HEAD = '# The names of the definitions on which each claim rests. Written by scripts/pages --write claims.\n'
 
 
 class Closure:
@@ -230,10 +237,9 @@ def clauses_of(functions, whole):
 
 def definition(number, it, user):
     """One definition with its place."""
-    note = f'. It has no comment of its own; the one above it, at `{it.after.name}`: "{it.file.said_of(it)}"' if it.after else ''
     text = [*it.comment, *it.lines]
     text = [it.head, *(f'  {x}' if x else x for x in text)] if it.head else text
-    return [f'#### {number}. `{it.name}`', '', f'{shown(it.file.path)}, named by `{user}`{note}', '',
+    return [f'#### {number}. `{it.name}`', '', f'{shown(it.file.path)}, named by `{user}`', '',
             '```rust' if it.is_code else '```antt', *text, '```', '']
 
 
@@ -246,19 +252,32 @@ def anchor(heading):
     return '#' + ''.join(x for x in heading.lower() if x.isalnum() or x in ' -_').replace(' ', '-')
 
 
-def written(book, page):
+class Opened:
+    """A page with what its clauses name."""
+
+    def __init__(self, book, page):
+        self.page, book.library = page, set()
+        self.functions = [(book.function(path, name), wanted) for path, name, wanted in page.clauses]
+        self.parts, self.users = closure_of(book, page, self.functions)
+        self.whole, self.library = [it for *_, order in self.parts for it in order], book.library
+
+    def names(self):
+        """The names of its definitions, a line for each file."""
+        named = {}
+        for it in self.whole:
+            named.setdefault(it.file.path, set()).add(it.name)
+        return [f'  {path}: {" ".join(sorted(names))}' for path, names in sorted(named.items())]
+
+
+def written(book, opened):
     """The text of a page."""
-    book.library = set()
-    functions = [(book.function(path, name), wanted) for path, name, wanted in page.clauses]
-    parts, users = closure_of(book, page, functions)
-    whole = [it for *_, order in parts for it in order]
-    files = {it.file.path for it in whole}
+    page, functions, parts, users, whole = opened.page, opened.functions, opened.parts, opened.users, opened.whole
+    paths = {it.file.path for it in whole}
     out = [f'# {page.title}', '', page.words, '',
-           f'Below stand {"the clauses of one function" if len(functions) == 1 else f"clauses of {len(functions)} functions"} and the {len(whole)} definitions on which they rest, {lines_of(whole)} lines of {len(files)} files, '
-           'word for word. Nothing else has to be read to know what is promised, but the notation, which [NOTATION.md](../NOTATION.md) explains; '
-           '[DEFINITIONS.md](../DEFINITIONS.md) has most of these definitions in plain words. In each part the layers stand from the top to the bottom, '
+           f'Below stand {"the clauses of one function" if len(functions) == 1 else f"clauses of {len(functions)} functions"} and the {len(whole)} definitions on which they rest, {lines_of(whole)} lines of {len(paths)} files, '
+           'word for word. Nothing else has to be read to know what is promised, but the notation, which [NOTATION.md](../NOTATION.md) explains. In each part the layers stand from the top to the bottom, '
            'and in a layer each definition where a reader first comes to its name. '
-           'The page is written by `scripts/pages --write claims`; [AUDIT.md](../AUDIT.md) tells what would be possible if a statement were wrong.', '']
+           'The page is written by `scripts/pages`; [AUDIT.md](../AUDIT.md) tells what would be possible if a statement were wrong.', '']
     out += ['| Part | Definitions | Lines |', '|---|---|---|']
     out += [f'| [{heading}]({anchor(heading)}) | {len(order)} | {lines_of(order)} |' for heading, _, order in parts]
     out += ['', '## The clauses', '', *clauses_of(functions, page.whole)]
@@ -275,33 +294,51 @@ def written(book, page):
             places[it] = len(places) + 1
             out += definition(places[it], it, users[it])
     index = ', '.join(f'`{it.name}` {places[it]}' for it in sorted(places, key=lambda x: (x.name.lower(), places[x])))
-    library = ', '.join(f'`{x}`' for x in sorted(book.library))
+    library = ', '.join(f'`{x}`' for x in sorted(opened.library))
     out += ['## Index', '', f'Each definition by its number: {index}.', '', '## Words of the library', '',
             f'Taken as the kit\'s library `std` defines them; [NOTATION.md](../NOTATION.md) has the common ones in plain words: {library}.']
     return '\n'.join(out) + '\n'
 
 
-def faults_of(book, name, page, write):
-    """What is wrong with a page."""
-    path = f'docs/claims/{name}.md'
-    try:
-        text = written(book, page)
-    except Wrong as why:
-        return [f'{path} can\'t be written: {why}']
+def printed(book, name):
+    """The text of a page, whether it is kept or not."""
+    return written(book, Opened(book, PAGES[name])).rstrip('\n')
+
+
+def current(path, text, write):
+    """What is wrong with a file that is written, once it is where it has to be."""
     if write:
         os.makedirs(f'{ROOT}/docs/claims', exist_ok=True)
         write_to(path, text)
     old = read(path) if os.path.exists(f'{ROOT}/{path}') else None
-    wrong = [f'{path} isn\'t current: scripts/pages --write claims'] if old != text else []
-    return wrong + ([f'docs/AUDIT.md has no link to claims/{name}.md'] if f'(claims/{name}.md)' not in read('docs/AUDIT.md') else [])
+    return [f'{path} isn\'t current: scripts/pages --write claims'] if old != text else []
+
+
+def faults_of(book, name, opened, write):
+    """What is wrong with a page."""
+    audit = read('docs/AUDIT.md')
+    if name in KEPT:
+        lacks = [f'docs/AUDIT.md has no link to claims/{name}.md'] if f'(claims/{name}.md)' not in audit else []
+        return current(f'docs/claims/{name}.md', written(book, opened), write) + lacks
+    return [f'docs/AUDIT.md has no `scripts/pages --print claims {name}`'] if f'`scripts/pages --print claims {name}`' not in audit else []
+
+
+def names_of(name, opened):
+    """What docs/claims/names.txt has of a page."""
+    return '\n'.join([f'{name}: {len(opened.whole)} definitions', *opened.names()]) + '\n'
 
 
 def judged(book, write):
-    faults, passed = [], 0
+    faults, passed, names = [], 0, {}
     for name, page in PAGES.items():
-        wrong = faults_of(book, name, page, write)
+        try:
+            opened = Opened(book, page)
+            wrong, names[name] = faults_of(book, name, opened, write), names_of(name, opened)
+        except Wrong as why:
+            wrong = [f'the claim page {name} can\'t be written: {why}']
         faults += wrong
         passed += not wrong
-    others = {os.path.basename(x)[:-3] for x in found('docs/claims/*')} - set(PAGES)
-    faults += [f'docs/claims has a page that nothing writes: {x}' for x in sorted(others)]
-    return [f'FAULT {it}' for it in faults], passed, len(faults)
+    wrong = current(NAMES, '\n'.join([HEAD, *(text for _, text in sorted(names.items()))]), write) if len(names) == len(PAGES) else []
+    allowed = {NAMES, *(f'docs/claims/{name}.md' for name in KEPT)}
+    wrong += [f'docs/claims has a file that nothing writes: {x}' for x in files() if x.startswith('docs/claims/') and x not in allowed]
+    return [f'FAULT {it}' for it in faults + wrong], passed + (not wrong), len(faults + wrong)

@@ -22,7 +22,8 @@ NAMED = re.compile(r'(?<![\w/.-])(?:(?:scripts|tools)/(?:[a-z_]\w*/)*[a-z_]\w*(?
 
 
 def pages():
-    return ['README.md', *found('docs/**/*.md')]
+    """All pages that git has, or would take."""
+    return [path for path in files() if re.fullmatch(r'README\.md|docs/.*\.md', path)]
 
 
 def anchor_of(words):

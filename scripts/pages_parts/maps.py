@@ -1,6 +1,7 @@
 """Makes the maps of the sources, which `scripts/pages --print` prints, and judges that the sources give them.
 
 files: each file of src/ and specs/, crate by crate, with the first sentence of the comment at its top.
+definitions: each definition of specs/ with its line and the first sentence of its comment.
 edits: each edit that the prover has to refuse, with its line `shows:`, which says what a refusal shows; who tries edits passes over it.
 
 1. Each file of src/ and specs/ begins with a comment; `specs/Lib.antt` only lists its folder and needs none.
@@ -10,7 +11,8 @@ Files and edits are counted.
 """
 import re
 
-from pages_parts import found, read
+from pages_parts import ROOT, found, read
+from statements import Book
 
 FOLDERS = ['must-fail', 'refused', 'refused/wrong']
 
@@ -28,6 +30,11 @@ def sentence_of(path):
         if not line.startswith(mark) or not text:
             break
         words.append(text)
+    return first_sentence(words)
+
+
+def first_sentence(words):
+    """The first sentence of a comment's lines."""
     return re.split(r'(?<=\.)\s+(?=[A-Z`])', ' '.join(words))[0].rstrip('.')
 
 
@@ -43,6 +50,15 @@ def files():
     return [(path.removeprefix('crates/'), sentence_of(path)) for path in paths if not path.endswith('/Lib.antt')]
 
 
+def definitions():
+    """[(path below crates/ with the line and the name, its sentence)]."""
+    book, out = Book(ROOT), []
+    for path in [path for crate in crates() for path in found(f'crates/{crate}/specs/**/*.antt')]:
+        named = book.open(path.removeprefix('crates/')).found.values()
+        out += [(f'{it.file.path}:{it.line} {it.name}', first_sentence([x.strip(' -') for x in it.comment])) for it in named if it.is_definition]
+    return out
+
+
 def edits():
     """[(path below crates/, what its refusal shows)]."""
     paths = [path for crate in crates() for folder in FOLDERS for path in found(f'crates/{crate}/{folder}/*.edit')]
@@ -50,7 +66,7 @@ def edits():
 
 
 # by the word after --print
-MAPS = {'files': files, 'edits': edits}
+MAPS = {'files': files, 'definitions': definitions, 'edits': edits}
 
 
 def printed(name):

@@ -24,6 +24,10 @@ PARTS = {
     'lets in': ('accepts', 'RFC 4252 section 5.1'),
 }
 TWIN = 'what contracts see of NAME is NAMEData'
+CONFIG = 'what an endpoint sees of its config is a config'
+TABLE = 'a line is a version line or a notice line; the phase table has dispositions'
+COMPATIBLE = 'two configs are compatible'
+COMPLETED = 'RFC 4252 section 5.1: methods are completed'
 NAMES = {
     'LineState': ('LineReaderData, PeerLineReaderData', TWIN), 'ReaderState': ('PacketReaderData', TWIN), 'KeyData': ('KeysData', TWIN),
     'Meaning': ('SuiteData', TWIN), 'Offer': ('KexInitData', TWIN), 'Content': ('MessageData', TWIN),
@@ -33,6 +37,12 @@ NAMES = {
     'LabRules': ('LabDecisionsData', TWIN), 'Allowance': ('AllowedData', TWIN), 'Saying': ('StatementData', TWIN),
     'SideValue': ('SideSettingData', TWIN), 'ClientValue': ('ClientSettingData', TWIN), 'ServerValue': ('ServerSettingData', TWIN),
     'Drafted': ('DraftData', TWIN),
+    'party': ('config', CONFIG), 'parties': ('configs', CONFIG), 'LabParties': ('LabConfigs', CONFIG), 'SampleParties': ('SampleConfigs', CONFIG),
+    'line_by': ('disposition_by', TABLE), 'line_reply': ('disposition_reply', TABLE), 'line_question': ('disposition_question', TABLE),
+    'packet_lines': ('packet_dispositions', TABLE), 'ReachedData': ('CompletedMethodsData', COMPLETED), 'nothing_reached': ('none_completed', COMPLETED),
+    'reached_after': ('completed_after', COMPLETED), 'has_reached': ('has_completed', COMPLETED), 'are_reached': ('are_completed', COMPLETED),
+    'AreUnderstood': ('AreCompatible', COMPATIBLE), 'AreUnderstoodIn': ('AreCompatibleIn', COMPATIBLE),
+    'tell_notice': ('give_notice', 'what a peer says to people is a notice'), 'sshsuites': ('sshlabsuites', 'it is insecure, so its name says what it is for'),
 }
 TERMS = {
     'shared number': ('shared secret, K', 'RFC 4253 section 8; in some methods it is bytes'),

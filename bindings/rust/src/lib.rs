@@ -243,6 +243,22 @@ pub enum Refused {
     Identity(u32),
 }
 
+/// Why a text has no private key that can be used, by its number.
+const IDENTITY_FAULTS: [&str; 12] = [
+    "has no private key that can be used",
+    "is no private key",
+    "is a public key",
+    "is a private key in another form",
+    "has a passphrase",
+    "is a key of RSA",
+    "is a key of ECDSA",
+    "is a key of another kind",
+    "has several keys, or none",
+    "ends too early",
+    "has two halves that aren't of one key",
+    "is filled up wrongly",
+];
+
 impl fmt::Display for Refused {
     fn fmt(&self, f: &mut fmt::Formatter<'_>) -> fmt::Result {
         match self {
@@ -251,7 +267,10 @@ impl fmt::Display for Refused {
             Refused::Unreadable => f.write_str("what was put in can't be read"),
             Refused::Unasked => f.write_str("nothing is asked that this answers"),
             Refused::Ended => f.write_str("the endpoint has ended"),
-            Refused::Identity(number) => write!(f, "the text has no private key that can be used: {number}"),
+            Refused::Identity(number) => {
+                let why = usize::try_from(*number).ok().and_then(|number| IDENTITY_FAULTS.get(number));
+                write!(f, "the text {}", why.unwrap_or(&IDENTITY_FAULTS[0]))
+            }
         }
     }
 }

@@ -282,4 +282,6 @@ fn disconnects() {
 fn a_text_that_is_no_key() {
     assert_eq!(read_identity(""), Err(Refused::Identity(1)));
     assert_eq!(read_identity("ssh-ed25519 AAAA al"), Err(Refused::Identity(2)));
+    assert_eq!(Refused::Identity(4).to_string(), "the text has a passphrase");
+    assert_eq!(Refused::Identity(12).to_string(), "the text has no private key that can be used");
 }

@@ -20,7 +20,7 @@ use Rattle.sshcore.specs.EndData.{AgreedData, Authenticated, Closed, Disconnecte
 use Rattle.sshcore.specs.EndpointParts.{ConfigData, DecisionsData, Setup, config_of_client, config_of_server, setup_with}
 use Rattle.sshcore.specs.Paused.{FitsPaused, IsResumed, PausedAfter, PausedData, asked_paused, paused_end}
 use Rattle.sshcore.specs.Questions.{AnswerData, Decided, HostKeyQuestion, QuestionData, Signed, SignatureQuestion, UserQuestion, decided, decided_by, taken, taken_by}
-use Rattle.sshcore.specs.declared.question.Question.{Question}
+use Rattle.sshcore.specs.declared.asking_question.Question.{Question}
 use Rattle.sshcore.specs.QuestionsView.{question_data}
 use Rattle.sshcore.specs.Record.{IsRecordOf}
 use Rattle.sshcore.specs.RecordHolding.{IsHolding}
@@ -38,9 +38,9 @@ use Rattle.rezdolin.specs.declared.answers.StepAnswer.{StepAnswer}
 use Rattle.rezdolin.specs.declared.steps.Came.{Came}
 use Rattle.rezdolin.specs.Answers.{end_numbers, fault_numbers, no_step}
 use Rattle.sshcore.proofs.AskedNothing.{asked_none}
-use Rattle.rezdolin.specs.Carried.{CarriesOn}
+use Rattle.rezdolin.specs.CarriedOn.{CarriesOn}
 use Rattle.sshcore.specs.ConfigRules.{IsClient, IsServer}
-use Rattle.rezdolin.specs.Endpoints.{AreAllowed, AreListed, AreRead, AreTaken, IsConfigOf, IsNone, IsRecordAfter, Resumes, Trusts, digest_of, means, party_in, role_in, setup_of}
+use Rattle.rezdolin.specs.Endpoints.{AreAllowed, AreListed, AreRead, AreTaken, IsConfigOf, IsNone, IsRecordAfter, Resumes, Trusts, config_in, digest_of, means, role_in, setup_of}
 use Rattle.rezdolin.specs.declared.frame.FrameFault.{FrameFault}
 use Rattle.rezdolin.specs.declared.frame.FrameFault.TheVariants as frame
 use Rattle.rezdolin.specs.Frames.{IsFrameFault, IsFrameOf, framed}
@@ -54,7 +54,7 @@ use Rattle.rezdolin.specs.Records.{spelled}
 use Rattle.rezdolin.specs.Steps.{Calls, ComesTo, IsAnswered, IsNoRecord, IsReply, LeavesWith, StandsBy, StandsHere, StandsNow, Starts, Tells, is_for, is_of_kind}
 
 -- the setup of an endpoint with the config of these parts
-pub same_setup : (parts : Parts) (made : Config) (d : DecisionsData) → IsConfigOf parts made → setup_with deployed d (role_in made) (party_in made) ≡ setup_of parts d
+pub same_setup : (parts : Parts) (made : Config) (d : DecisionsData) → IsConfigOf parts made → setup_with deployed d (role_in made) (config_in made) ≡ setup_of parts d
 same_setup (parts.Client client) (config.Client made) d is = ap (λ m. setup_with deployed d Client (config_of_client m)) is.0
 same_setup (parts.Client client) (config.Server made) d is = absurd is
 same_setup (parts.Server server) (config.Client made) d is = absurd is
@@ -146,14 +146,14 @@ taken_so (parts.Server server) (config.Server made) read is = (read, subst IsSer
 
 module _ (parts : Parts) (made : Config) (is : IsConfigOf parts made) where
   -- an endpoint with this config has the setup of the parts
-  pub setup_is : (d : DecisionsData) (e : AskingData DeployedSuite) → e.role ≡ role_in made → e.party ≡ party_in made → asking_setup means d e ≡ setup_of parts d
-  setup_is d e role party =
-      ap (λ (r : Side). setup_with deployed d r e.party) role ∙ (ap (λ (p : ConfigData). setup_with deployed d (role_in made) p) party ∙ same_setup parts made d is)
+  pub setup_is : (d : DecisionsData) (e : AskingData DeployedSuite) → e.role ≡ role_in made → e.config ≡ config_in made → asking_setup means d e ≡ setup_of parts d
+  setup_is d e role config =
+      ap (λ (r : Side). setup_with deployed d r e.config) role ∙ (ap (λ (p : ConfigData). setup_with deployed d (role_in made) p) config ∙ same_setup parts made d is)
 
   -- the record in a frame is that of each endpoint whose frame it is
   pub of_record : (bytes text digest h s : List ℕ) (d : DecisionsData) (question : Option QuestionData) → digest ≡ digest_of parts → bytes ≡ framed digest text
       → (stood : StandsBy (setup_of parts d) (digest_of parts) bytes question h s)
-      → (r : IsRecordAfter (setup_with deployed d (role_in made) (party_in made)) text h s) × (asked_paused r.endpoint ≡ question)
+      → (r : IsRecordAfter (setup_with deployed d (role_in made) (config_in made)) text h s) × (asked_paused r.endpoint ≡ question)
   of_record bytes text digest h s d question digest_is framed_is stood =
       subst (λ (setup : Setup). (r : IsRecordAfter setup text h s) × (asked_paused r.endpoint ≡ question)) (sym (same_setup parts made d is))
       (subst (λ (t : List ℕ). (r : IsRecordAfter (setup_of parts d) t h s) × (asked_paused r.endpoint ≡ question))
@@ -161,20 +161,20 @@ module _ (parts : Parts) (made : Config) (is : IsConfigOf parts made) where
       (stood.recorded, stood.asks))
 
   -- no record of such an endpoint is in this frame
-  pub of_none : (bytes text digest : List ℕ) → digest ≡ digest_of parts → bytes ≡ framed digest text → IsNone (role_in made) (party_in made) text → IsNoRecord parts bytes
+  pub of_none : (bytes text digest : List ℕ) → digest ≡ digest_of parts → bytes ≡ framed digest text → IsNone (role_in made) (config_in made) text → IsNoRecord parts bytes
   of_none bytes text digest digest_is framed_is none = λ d h s stood. none d h s (of_record bytes text digest h s d stood.0 digest_is framed_is stood.1).0
 
   -- an endpoint that went on stands now as it does
   pub now_so : (d : DecisionsData) (new : AskingData DeployedSuite) (digest h s : List ℕ) (end : EndNumbers) (bytes told : List ℕ) → digest ≡ digest_of parts
-      → new.role ≡ role_in made → new.party ≡ party_in made → StandsNow (asking_setup means d new) digest h s end bytes told
+      → new.role ≡ role_in made → new.config ≡ config_in made → StandsNow (asking_setup means d new) digest h s end bytes told
       → StandsNow (setup_of parts d) (digest_of parts) h s end bytes told
-  now_so d new digest h s end bytes told digest_is role party stands =
+  now_so d new digest h s end bytes told digest_is role config stands =
       subst (λ (x : List ℕ). StandsNow (setup_of parts d) x h s end bytes told) digest_is
-      (subst (λ (setup : Setup). StandsNow setup digest h s end bytes told) (setup_is d new role party) stands)
+      (subst (λ (setup : Setup). StandsNow setup digest h s end bytes told) (setup_is d new role config) stands)
 
   -- a call that begins
   pub begins_so : AreRead parts → (e : AskingData DeployedSuite) (suite : DeployedSuite) (digest before sent : List ℕ) (end : EndNumbers) (bytes told : List ℕ) → digest ≡ digest_of parts
-      → before ≡ [] → AskingMade means (role_in made) (party_in made) suite e before sent
+      → before ≡ [] → AskingMade means (role_in made) (config_in made) suite e before sent
       → ((d : DecisionsData) (h s : List ℕ) → AskingAfter means d e h s → by_input (asking_end e) ≡ true → StandsNow (asking_setup means d e) digest h s end bytes told)
       → (asked_by e ≡ None → end.end ≢ END_ASKS)
       → ComesTo parts Starts [] sent end bytes told
@@ -191,7 +191,7 @@ module _ (parts : Parts) (made : Config) (is : IsConfigOf parts made) where
 
   -- a call that goes on from a record
   pub steps_so : AreRead parts → (trust : Option Trust) (bytes text digest : List ℕ) (e new : AskingData DeployedSuite) (given before sent : List ℕ) (end : EndNumbers) (written told : List ℕ) → digest ≡ digest_of parts
-      → bytes ≡ framed digest text → Resumes (role_in made) (party_in made) text e
+      → bytes ≡ framed digest text → Resumes (role_in made) (config_in made) text e
       → ((d : DecisionsData) → AreAllowed parts d → Trusts trust d) → (AreListed parts → IsSome trust)
       → before ≡ [] → ((d : DecisionsData) → Trusts trust d → CarriesOn means d e new given before sent) → (IsSome trust → asked_by new ≡ None)
       → ((d : DecisionsData) (h s : List ℕ) → AskingAfter means d new h s → by_input (asking_end new) ≡ true → StandsNow (asking_setup means d new) digest h s end written told)
@@ -212,7 +212,7 @@ module _ (parts : Parts) (made : Config) (is : IsConfigOf parts made) where
 
   -- a call that goes on with an answer
   pub answers_so : AreRead parts → (a : AnswerData) (bytes text digest : List ℕ) (e new : AskingData DeployedSuite) (before sent : List ℕ) (end : EndNumbers) (written told : List ℕ) → digest ≡ digest_of parts
-      → bytes ≡ framed digest text → Resumes (role_in made) (party_in made) text e → is_for a (asked_by e) ≡ true
+      → bytes ≡ framed digest text → Resumes (role_in made) (config_in made) text e → is_for a (asked_by e) ≡ true
       → before ≡ [] → Answered means (taken_by (asked_by e) a) e new before sent → (by_input (asking_end new) ≡ false → asking_end e ≡ asking_end new)
       → ((d : DecisionsData) (h s : List ℕ) → AskingAfter means d new h s → by_input (asking_end new) ≡ true → StandsNow (asking_setup means d new) digest h s end written told)
       → (asked_by new ≡ None → end.end ≢ END_ASKS)
@@ -234,7 +234,7 @@ module _ (parts : Parts) (made : Config) (is : IsConfigOf parts made) where
 
   -- an answer that answers nothing
   pub unasked_so : (a : AnswerData) (bytes text digest : List ℕ) (e : AskingData DeployedSuite) → digest ≡ digest_of parts → bytes ≡ framed digest text
-      → Resumes (role_in made) (party_in made) text e → is_for a (asked_by e) ≡ false
+      → Resumes (role_in made) (config_in made) text e → is_for a (asked_by e) ≡ false
       → (d : DecisionsData) (h s : List ℕ) (question : Option QuestionData) → StandsBy (setup_of parts d) (digest_of parts) bytes question h s → is_for a question ≡ false
   unasked_so a bytes text digest e digest_is framed_is resumes unasked d h s question stood =
       let r = of_record bytes text digest h s d question digest_is framed_is stood in
@@ -242,7 +242,7 @@ module _ (parts : Parts) (made : Config) (is : IsConfigOf parts made) where
 
   -- a call that disconnects
   pub leaves_so : (bytes text digest description : List ℕ) (reason : ℕ) (e new : AskingData DeployedSuite) (before sent : List ℕ) → digest ≡ digest_of parts → bytes ≡ framed digest text
-      → Resumes (role_in made) (party_in made) text e → before ≡ [] → AskingLeaves means e new reason description before sent
+      → Resumes (role_in made) (config_in made) text e → before ≡ [] → AskingLeaves means e new reason description before sent
       → (d : DecisionsData) (h s : List ℕ) → StandsHere (digest_of parts) bytes (setup_of parts d) h s → LeavesWith (setup_of parts d) h s (parting reason description) sent
   leaves_so bytes text digest description reason e new before sent digest_is framed_is resumes none leaves = λ d h s stood.
       let r = of_record bytes text digest h s d stood.0 digest_is framed_is stood.1 in
@@ -292,7 +292,7 @@ nothing_so m d old new before after same sent = record {
   follows = λ h s stands. subst (λ (l : List ℕ). AskingAfter m d new l (s ++ [])) (sym (append-nil h)) (subst (λ (l : List ℕ). AskingAfter m d new h l) (sym (append-nil s))
       (subst (λ (e : AskingData _). AskingAfter m d e h s) (sym same) stands));
   owned = λ _. ap asking_end (sym same);
-  same = record { same_role = ap (λ e. e.role) same; same_config = ap (λ e. e.party) same; same_suite = ap (λ e. e.suite) same };
+  same = record { same_role = ap (λ e. e.role) same; same_config = ap (λ e. e.config) same; same_suite = ap (λ e. e.suite) same };
 }
 
 -- the next bytes of a piece
@@ -324,7 +324,7 @@ ended_so d e digest h s end session told closed end_is brought told_is hands non
 -- and one that goes on, by its record
 pub open_so : (d : DecisionsData) (e : AskingData DeployedSuite) (paused : PausedData DeployedSuite) (digest text bytes h s : List ℕ) (end : EndNumbers) (told : List ℕ)
     → end ≡ told_end Open (asked_by e) → told ≡ told_question (asked_by e) → bytes ≡ framed digest text → IsRecordOf text paused
-    → FitsPaused means e.role e.party e.suite paused
+    → FitsPaused means e.role e.config e.suite paused
     → ((d : DecisionsData) (h s : List ℕ) → AskingAfter means d e h s → PausedAfter (asking_setup means d e) paused h s) → asked_paused paused ≡ asked_by e
     → AskingAfter means d e h s → StandsNow (asking_setup means d e) digest h s end bytes told
 open_so d e paused digest text bytes h s end told end_is told_is framed_is is fits follows asks after =
@@ -393,10 +393,10 @@ suites_one : (a b : DeployedSuite) → a ≡ b
 suites_one a b = refl
 
 -- an endpoint that was made of a record and resumed
-pub resumes_so : (role : Side) (party plain : ConfigData) (text : List ℕ) (q : PausedData DeployedSuite) (e : AskingData DeployedSuite) (suite : DeployedSuite) → GoesOnFrom means role party suite text (Ok q)
-    → IsResumed role party suite q e → ((d : DecisionsData) (h s : List ℕ) → PausedAfter (setup_with deployed d role party) q h s → AskingAfter means d e h s)
-    → asked_by e ≡ asked_paused q → paused_end q ≡ Open → asking_end e ≡ paused_end q → party ≡ plain → Resumes role plain text e
-resumes_so role party plain text q e suite goes_on resumed follows asks is_open same plain_is = subst (λ (p : ConfigData). Resumes role p text e) plain_is (record {
+pub resumes_so : (role : Side) (config plain : ConfigData) (text : List ℕ) (q : PausedData DeployedSuite) (e : AskingData DeployedSuite) (suite : DeployedSuite) → GoesOnFrom means role config suite text (Ok q)
+    → IsResumed role config suite q e → ((d : DecisionsData) (h s : List ℕ) → PausedAfter (setup_with deployed d role config) q h s → AskingAfter means d e h s)
+    → asked_by e ≡ asked_paused q → paused_end q ≡ Open → asking_end e ≡ paused_end q → config ≡ plain → Resumes role plain text e
+resumes_so role config plain text q e suite goes_on resumed follows asks is_open same plain_is = subst (λ (p : ConfigData). Resumes role p text e) plain_is (record {
   is_role = resumed.is_role;
   is_config = resumed.is_config;
   is_open = same ∙ is_open;
@@ -404,8 +404,8 @@ resumes_so role party plain text q e suite goes_on resumed follows asks is_open 
   asks = λ d h s r. asks ∙ (far d h s r).asks;
 })
   where
-    far : (d : DecisionsData) (h s : List ℕ) (r : IsRecordAfter (setup_with deployed d role party) text h s) → IsAsFar (setup_with deployed d role party) h s r.endpoint q
-    far d h s r = goes_on r.endpoint d h s r.is_record (subst (λ (x : DeployedSuite). FitsPaused means role party x r.endpoint) (suites_one r.suite suite) r.fits) r.after
+    far : (d : DecisionsData) (h s : List ℕ) (r : IsRecordAfter (setup_with deployed d role config) text h s) → IsAsFar (setup_with deployed d role config) h s r.endpoint q
+    far d h s r = goes_on r.endpoint d h s r.is_record (subst (λ (x : DeployedSuite). FitsPaused means role config x r.endpoint) (suites_one r.suite suite) r.fits) r.after
 
 -- where there are lists the decisions are theirs
 pub trusts_some : (o : Option Trust) (t : Trust) (d : DecisionsData) → o ≡ Some t → Trusts o d → d ≡ trust_policy t.host_keys.now t.users.now
@@ -452,7 +452,7 @@ own_setup (parts.Client client) d = refl
 own_setup (parts.Server server) d = refl
 
 module _ (bytes piece digest text new_text written : List ℕ) (framed_is : bytes ≡ framed digest text) (len : length digest ≡ 32) (written_is : written ≡ framed digest new_text)
-    (holds : (role : Side) (party : ConfigData) (suite : DeployedSuite) (p : PausedData DeployedSuite) → IsRecordOf text p → FitsPaused means role party suite p → IsHolding means role party suite piece new_text p) where
+    (holds : (role : Side) (config : ConfigData) (suite : DeployedSuite) (p : PausedData DeployedSuite) → IsRecordOf text p → FitsPaused means role config suite p → IsHolding means role config suite piece new_text p) where
   pub holds_so : (parts : Parts) (d : DecisionsData) (h s : List ℕ) → StandsHere (digest_of parts) bytes (setup_of parts d) h s
       → StandsBy (setup_of parts d) (digest_of parts) written None (h ++ piece) s
   holds_so parts d h s stood =
@@ -490,7 +490,7 @@ why_frame_reply parts bytes digest a frame.Parts digest_is why = why_frame parts
 
 -- why no endpoint goes on from what stands in a frame
 pub why_from : (parts : Parts) (made : Config) (is : IsConfigOf parts made) (bytes text digest : List ℕ) (f : RecordFault) → digest ≡ digest_of parts → bytes ≡ framed digest text
-    → (f ≢ no_record.Memory → IsNone (role_in made) (party_in made) text) → WhyNotFrom parts bytes (record_step f)
+    → (f ≢ no_record.Memory → IsNone (role_in made) (config_in made) text) → WhyNotFrom parts bytes (record_step f)
 why_from parts made is bytes text digest no_record.Memory digest_is framed_is none = tt
 why_from parts made is bytes text digest no_record.Version digest_is framed_is none = record {
   none = of_none parts made is bytes text digest digest_is framed_is (none (λ e. cc));
@@ -502,7 +502,7 @@ why_from parts made is bytes text digest no_record.Unreadable digest_is framed_i
 }
 
 pub why_reply : (parts : Parts) (made : Config) (is : IsConfigOf parts made) (bytes text digest : List ℕ) (a : AnswerData) (f : RecordFault) → digest ≡ digest_of parts → bytes ≡ framed digest text
-    → (f ≢ no_record.Memory → IsNone (role_in made) (party_in made) text) → WhyNoReply parts bytes a (record_step f)
+    → (f ≢ no_record.Memory → IsNone (role_in made) (config_in made) text) → WhyNoReply parts bytes a (record_step f)
 why_reply parts made is bytes text digest a no_record.Memory digest_is framed_is none = tt
 why_reply parts made is bytes text digest a no_record.Version digest_is framed_is none = why_from parts made is bytes text digest no_record.Version digest_is framed_is none
 why_reply parts made is bytes text digest a no_record.Unreadable digest_is framed_is none = why_from parts made is bytes text digest no_record.Unreadable digest_is framed_is none

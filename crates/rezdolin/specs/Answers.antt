@@ -18,6 +18,7 @@ use Rattle.rezdolin.specs.declared.steps.NoStep.{NoStep}
 use Rattle.rezdolin.specs.declared.steps.NoStep.TheVariants as step
 use Rattle.rezdolin.specs.declared.texts.InputFault.TheVariants as input
 
+-- the numbers of how an endpoint is: its end, the code of its failure, and a detail of that
 abbrev pub three : ℕ → ℕ → ℕ → EndNumbers
 three e f d = record { end = e; fault = f; detail = d }
 
@@ -101,5 +102,6 @@ step_answer came = record {
   told_len = length came.told.items;
 }
 
+-- the answer to a call whose rooms are too small: how many bytes each of the three has to have
 abbrev pub lacks_room : Came → StepAnswer
 lacks_room came = no_room (length came.sent.items) (length came.record.items) (length came.told.items)

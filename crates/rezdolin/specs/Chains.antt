@@ -15,6 +15,7 @@ pub data Call : Type 0 where
   Stepped : List ℕ → Came → Call
   Replied : ℕ → List ℕ → Came → Call
 
+-- what the call came to
 abbrev pub came_of : Call → Came
 came_of (Stepped piece came) = came
 came_of (Replied number signature came) = came
@@ -24,15 +25,17 @@ abbrev pub used_by : Call → List ℕ
 used_by (Stepped piece came) = take came.used piece
 used_by (Replied number signature came) = []
 
--- what several calls used and have sent, and what the last one came to
+-- the bytes that the calls have used, in order
 abbrev pub all_used : List Call → List ℕ
 all_used [] = []
 all_used (call ∷ calls) = used_by call ++ all_used calls
 
+-- what the calls have sent, in order
 abbrev pub all_sent : List Call → List ℕ
 all_sent [] = []
 all_sent (call ∷ calls) = (came_of call).sent.items ++ all_sent calls
 
+-- what the last of the calls came to; without a call, what came before
 abbrev pub last_of : Came → List Call → Came
 last_of came [] = came
 last_of came (call ∷ calls) = last_of (came_of call) calls
@@ -48,6 +51,8 @@ IsNext parts d before (Stepped piece came) = GoesOn parts before.record.items pi
 IsNext parts d before (Replied number signature came) =
     IsAnsweredBy parts before.record.items number signature came × (before.end.end ≡ END_ASKS) × IsTheirs d before.told.items number signature
 
+-- Each call came to this from the record that the one before has written. Each answer is to the question of the one before, as these
+-- decisions answer it.
 abbrev pub AreNext : Parts → DecisionsData → Came → List Call → Type 0
 AreNext parts d before [] = Unit {0}
 AreNext parts d before (call ∷ calls) = (before.record.items ≢ []) × IsNext parts d before call × AreNext parts d (came_of call) calls

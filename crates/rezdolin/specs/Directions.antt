@@ -46,8 +46,9 @@ pub record Moves (m : SuiteData) (len : ℕ) (before after : List ℕ) : Type 0 
 abbrev pub IsPut : List ℕ → List ℕ → ℕ → List ℕ → Type 0
 IsPut bytes room n new = (length bytes ≤ length room) × (n ≡ length bytes) × (new ≡ bytes ++ drop (length bytes) room)
 
--- The payload was sealed: the packet that is put is the one of this payload, sealed with the keys and the number of the state, and
--- what is sealed in it is a packet of the payload with the least padding.
+-- The packet of this payload, sealed with the keys and the sequence number of the state, is in the room; what is sealed in it is a packet
+-- with the least padding (RFC 4253 section 6). The state has the next number, the keys of the next packet, and one packet and its bytes
+-- more. Before it had sealed fewer packets and bytes than a link's limits.
 pub record IsSealed (m : SuiteData) (state seed payload room new_state : List ℕ) (n : ℕ) (new : List ℕ) : Type 0 where
   pub moves : Moves m n state new_state
   pub some : 0 < length payload
@@ -57,7 +58,7 @@ pub record IsSealed (m : SuiteData) (state seed payload room new_state : List �
       (written m (m.counts_length moves.keys.cipher moves.keys.mac) (m.block moves.keys.cipher) seed moves.number payload)
 
 -- A packet was opened: so many bytes at the front of what was received are one of the payload that is put, by the keys and the
--- number of the state.
+-- number of the state (RFC 4253 section 6).
 pub record IsOpened (m : SuiteData) (state received room new_state : List ℕ) (used n : ℕ) (new : List ℕ) : Type 0 where
   pub moves : Moves m used state new_state
   pub within : used ≤ length received

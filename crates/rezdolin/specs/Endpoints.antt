@@ -30,11 +30,12 @@ use Rattle.rezdolin.specs.Trust.{trust_policy}
 abbrev pub means : DeployedSuite → SuiteData
 means suite = deployed
 
--- their numbers and entries can be read, and their texts
+-- the numbers and entries of these parts can be read
 abbrev pub AreRead : Parts → Type 0
 AreRead (parts.Client client) = IsClientRead client.now
 AreRead (parts.Server server) = IsServerRead server.now
 
+-- the texts of these parts are UTF-8, and their numbers of methods are read
 abbrev pub AreTexts : Parts → Type 0
 AreTexts (parts.Client client) = AreClientTexts client.now
 AreTexts (parts.Server server) = AreServerTexts server.now
@@ -44,7 +45,7 @@ abbrev pub setup_of : Parts → DecisionsData → Setup
 setup_of (parts.Client client) d = client_setup deployed d (client_of client.now)
 setup_of (parts.Server server) d = server_setup deployed d (server_of server.now)
 
--- the digest of all that is read of them
+-- the digest of all that is read of them (FIPS 180-4)
 abbrev pub digest_of : Parts → List ℕ
 digest_of (parts.Client client) = sha256 (client_text client.now [])
 digest_of (parts.Server server) = sha256 (server_text server.now [])
@@ -59,7 +60,7 @@ abbrev pub AreAllowed : Parts → DecisionsData → Type 0
 AreAllowed (parts.Client client) d = client.now.asks ≢ 1 → d ≡ trust_policy client.now.trusted_host_keys.now []
 AreAllowed (parts.Server server) d = server.now.asks ≢ 1 → d ≡ trust_policy [] server.now.users.now
 
--- those of lists, where there are some
+-- the decisions are those of the lists, where there are lists
 abbrev pub Trusts : Option Trust → DecisionsData → Type 0
 Trusts None d = Unit {0}
 Trusts (Some trust) d = d ≡ trust_policy trust.host_keys.now trust.users.now
@@ -71,11 +72,12 @@ IsConfigOf (parts.Client client) (config.Server made) = ⊥
 IsConfigOf (parts.Server server) (config.Client made) = ⊥
 IsConfigOf (parts.Server server) (config.Server made) = (made ≡ server_of server.now) × IsServer made × IsFitServer server.now
 
--- why there is none
+-- why there is no config for these parts
 abbrev pub RefusesParts : Parts → NoConfig → Type 0
 RefusesParts (parts.Client client) f = RefusesClient client.now f
 RefusesParts (parts.Server server) f = RefusesServer server.now f
 
+-- why there is no config for these parts, as a number
 abbrev pub AreRefused : Parts → ℕ → Type 0
 AreRefused (parts.Client client) number = IsRefusedClient client.now number
 AreRefused (parts.Server server) number = IsRefusedServer server.now number
@@ -85,13 +87,15 @@ abbrev pub AreTaken : Parts → Type 0
 AreTaken (parts.Client client) = IsClientRead client.now × IsClient (client_of client.now) × IsFitClient client.now
 AreTaken (parts.Server server) = IsServerRead server.now × IsServer (server_of server.now) × IsFitServer server.now
 
+-- the role of a config that was made
 abbrev pub role_in : Config → Side
 role_in (config.Client made) = Client
 role_in (config.Server made) = Server
 
-abbrev pub party_in : Config → ConfigData
-party_in (config.Client made) = config_of_client made
-party_in (config.Server made) = config_of_server made
+-- what an endpoint uses of a config that was made
+abbrev pub config_in : Config → ConfigData
+config_in (config.Client made) = config_of_client made
+config_in (config.Server made) = config_of_server made
 
 -- This text is the record of a paused endpoint of this role and config that has received and sent so, by these decisions, and asks this.
 pub record IsRecordAfter (setup : Setup) (text h s : List ℕ) : Type 0 where
@@ -102,13 +106,13 @@ pub record IsRecordAfter (setup : Setup) (text h s : List ℕ) : Type 0 where
   pub after : PausedAfter setup endpoint h s
 
 -- An endpoint goes on from this record: it stands as far as each that it was written of, and asks the same.
-pub record Resumes (role : Side) (party : ConfigData) (text : List ℕ) (e : AskingData DeployedSuite) : Type 0 where
+pub record Resumes (role : Side) (config : ConfigData) (text : List ℕ) (e : AskingData DeployedSuite) : Type 0 where
   pub is_role : e.role ≡ role
-  pub is_config : e.party ≡ party
+  pub is_config : e.config ≡ config
   pub is_open : asking_end e ≡ Open
-  pub follows : (d : DecisionsData) (h s : List ℕ) → IsRecordAfter (setup_with deployed d role party) text h s → AskingAfter means d e h s
-  pub asks : (d : DecisionsData) (h s : List ℕ) (r : IsRecordAfter (setup_with deployed d role party) text h s) → asked_by e ≡ asked_paused r.endpoint
+  pub follows : (d : DecisionsData) (h s : List ℕ) → IsRecordAfter (setup_with deployed d role config) text h s → AskingAfter means d e h s
+  pub asks : (d : DecisionsData) (h s : List ℕ) (r : IsRecordAfter (setup_with deployed d role config) text h s) → asked_by e ≡ asked_paused r.endpoint
 
 -- this text is the record of no endpoint of this role and config
 abbrev pub IsNone : Side → ConfigData → List ℕ → Type 0
-IsNone role party text = (d : DecisionsData) (h s : List ℕ) → IsRecordAfter (setup_with deployed d role party) text h s → ⊥
+IsNone role config text = (d : DecisionsData) (h s : List ℕ) → IsRecordAfter (setup_with deployed d role config) text h s → ⊥

@@ -14,7 +14,7 @@ use Rattle.rezdolin.specs.declared.inputs.SideInput.{SideInput}
 use Rattle.rezdolin.specs.declared.inputs.TheConstants.{IGNORED_LIMIT, METHOD_NONE, METHOD_PASSWORD, METHOD_SIGNED, READING_STRICT, STRICT_YES}
 use Rattle.rezdolin.specs.Readable.{IsMethod}
 
--- no bytes are nothing
+-- the bytes, if there are some, else nothing
 abbrev pub unless_empty : List ℕ → Option (List ℕ)
 unless_empty bytes = if length bytes == 0 then None else Some bytes
 
@@ -30,6 +30,7 @@ names_of list = if length list == 0 then [] else between_commas list
 abbrev pub reading_by : ℕ → PeerReading
 reading_by number = if number == READING_STRICT then Strict else Deployed
 
+-- the settings that both sides have, of what a program puts in; a `strict` other than `STRICT_YES` is no
 abbrev pub side_of : SideInput → SideData
 side_of side = record {
   softwareversion = side.softwareversion.now;
@@ -54,13 +55,15 @@ proving_by attempt =
     else if attempt.method == METHOD_PASSWORD then ByPassword attempt.secret.now
     else ByKey attempt.algorithm.now attempt.secret.now (attempt.ask == 1)
 
+-- an attempt of a client's plan, of what a program puts in
 abbrev pub attempt_by : AttemptInput → AttemptData
 attempt_by attempt = record { user = attempt.user.now; service = attempt.service.now; proving = proving_by attempt }
 
+-- a host key of a server, of what a program puts in
 abbrev pub host_key_by : HostKeyInput → HostKeyData
 host_key_by key = record { algorithm = key.algorithm.now; secret = key.key.now }
 
--- the config of a client
+-- the config of a client that was put in: each list is what stands between the commas of its text, and no bytes are no comments
 abbrev pub client_of : ClientInput → ClientData
 client_of client = record {
   side = side_of client.side;
@@ -87,7 +90,7 @@ server_of server = record {
   notices = map (λ line. line.now) server.notice_lines.now;
 }
 
--- what has to be UTF-8, and the numbers of methods
+-- the texts of the settings that both sides have are UTF-8
 pub record AreSideTexts (side : SideInput) : Type 0 where
   pub softwareversion : IsUtf8 side.softwareversion.now
   pub comments : IsUtf8 side.comments.now
@@ -97,17 +100,20 @@ pub record AreSideTexts (side : SideInput) : Type 0 where
   pub mac_client_to_server : IsUtf8 side.mac_client_to_server.now
   pub mac_server_to_client : IsUtf8 side.mac_server_to_client.now
 
+-- the texts of an attempt are UTF-8, and its method is one of the numbers of methods
 pub record AreAttemptTexts (attempt : AttemptInput) : Type 0 where
   pub user : IsUtf8 attempt.user.now
   pub service : IsUtf8 attempt.service.now
   pub algorithm : IsUtf8 attempt.algorithm.now
   pub method : IsMethod attempt.method ⊎ (attempt.method ≡ METHOD_SIGNED)
 
+-- the texts of a client's input are UTF-8, and each attempt has the number of a method
 pub record AreClientTexts (client : ClientInput) : Type 0 where
   pub side : AreSideTexts client.side
   pub host_key_algorithms : IsUtf8 client.server_host_key_algorithms.now
   pub plan : AllByRecursion AreAttemptTexts client.plan.now
 
+-- the texts of a server's input are UTF-8
 pub record AreServerTexts (server : ServerInput) : Type 0 where
   pub side : AreSideTexts server.side
   pub host_keys : AllByRecursion (λ (key : HostKeyInput). IsUtf8 key.algorithm.now) server.host_keys.now

@@ -9,7 +9,7 @@ pub mod Questions
 pub mod PartsText
 pub mod Frames
 pub mod Endpoints
-pub mod Carried
+pub mod CarriedOn
 pub mod Steps
 pub mod StepsView
 pub mod PublicKeys

@@ -29,9 +29,12 @@ is_other_key bytes = do
   second ← string_at first.1
   Ok (is_name name.0 && (not (bytes_eq name.0 (codes "ssh-ed25519")) && length second.1 == 0))
 
+-- the bytes were read to their end and have this form; what is refused has it not
 abbrev pub is_found : Result Bool WireFault → Bool
 is_found (Ok found) = found
 is_found (Err fault) = false
 
+-- The bytes have the form of a public key: of `ssh-ed25519` (RFC 8709 section 4), of a security key by ECDSA, or of another kind (RFC 4253
+-- section 6.6).
 abbrev pub is_public_key : List ℕ → Bool
 is_public_key bytes = is_found (is_ed25519_key bytes) || is_found (is_token_key bytes) || is_found (is_other_key bytes)

@@ -17,22 +17,25 @@ method_of NoProof = METHOD_NONE
 method_of (PasswordProof password) = METHOD_PASSWORD
 method_of (KeyProof algorithm key) = METHOD_PUBLICKEY
 
--- The fields of a question: what it asks of; the request's number, user and service, of a host key none; the method by which the request
--- proves its user; the algorithm and the key; and the password, or what is to be signed.
+-- the last fields of a question about a user: the method by which the request proves its user, the algorithm and the key, and the password
 abbrev pub proof_fields : ProofData → List (List ℕ)
 proof_fields NoProof = uint32 (method_of NoProof) ∷ [] ∷ [] ∷ [] ∷ []
 proof_fields (PasswordProof password) = uint32 (method_of (PasswordProof password)) ∷ [] ∷ [] ∷ password ∷ []
 proof_fields (KeyProof algorithm key) = uint32 (method_of (KeyProof algorithm key)) ∷ algorithm ∷ key ∷ [] ∷ []
 
+-- The fields of a question, in order: its kind, the number of the request, user, service, the method by which the request proves its user,
+-- algorithm, key, and the password or what is to be signed. A question about a host key or for a signature has no number, user, service and
+-- method.
 abbrev pub question_fields : QuestionData → List (List ℕ)
 question_fields (HostKeyQuestion algorithm key) = (ASKS_HOST_KEY ∷ []) ∷ [] ∷ [] ∷ [] ∷ [] ∷ algorithm ∷ key ∷ [] ∷ []
 question_fields (UserQuestion number user service proof) = (ASKS_USER ∷ []) ∷ uint32 number ∷ user ∷ service ∷ proof_fields proof
 question_fields (SignatureQuestion number algorithm key input) = (ASKS_SIGNATURE ∷ []) ∷ [] ∷ [] ∷ [] ∷ [] ∷ algorithm ∷ key ∷ input ∷ []
 
--- as bytes, and none where nothing is asked
+-- a question as bytes: its fields, each as a string
 abbrev pub question_bytes : QuestionData → List ℕ
 question_bytes question = strings (question_fields question)
 
+-- a question as bytes; no byte where nothing is asked
 abbrev pub told_question : Option QuestionData → List ℕ
 told_question None = []
 told_question (Some question) = question_bytes question

@@ -37,7 +37,8 @@ pub record IsEntry (entry : UserInput) : Type 0 where
 abbrev pub IsPlaced : Bool → HostKeyInput → Type 0
 IsPlaced asks key = (key.place ≡ KEY_HERE) ⊎ ((key.place ≡ KEY_ELSEWHERE) × (asks ≡ true))
 
--- a client's numbers
+-- Each number of a client's input is one of its field's. Each attempt has the number of a method; one whose signature is made elsewhere
+-- only where the client asks.
 pub record IsClientRead (client : ClientInput) : Type 0 where
   pub strict : IsStrictness client.side.strict
   pub reading : IsPeerReading client.side.reading
@@ -45,7 +46,8 @@ pub record IsClientRead (client : ClientInput) : Type 0 where
   pub asks : client.asks ≤ 1
   pub plan : AllByRecursion (IsAttempt (client.asks == 1)) client.plan.now
 
--- a server's numbers, and its entries where they are read
+-- Each number of a server's input is one of its field's. A host key is elsewhere only where the server asks. Where it doesn't ask, each
+-- entry of its users has a user, the number of a method and a proof that fits.
 pub record IsServerRead (server : ServerInput) : Type 0 where
   pub strict : IsStrictness server.side.strict
   pub reading : IsPeerReading server.side.reading

@@ -37,18 +37,21 @@ is_held algorithm key = deployed.holds algorithm key
 abbrev pub is_elsewhere : List ℕ → List ℕ → Bool
 is_elsewhere algorithm key = is_public_key key && not (is_held algorithm key)
 
--- It holds each private key of a plan, and none of those that are to be elsewhere; and so of host keys.
+-- the private key of an attempt is where its method says: the suite holds it, or it is the public key of one elsewhere
 abbrev pub is_attempt_placed : AttemptInput → Bool
 is_attempt_placed attempt =
     if attempt.method == METHOD_PUBLICKEY then is_held attempt.algorithm.now attempt.secret.now
     else if attempt.method == METHOD_SIGNED then is_elsewhere attempt.algorithm.now attempt.secret.now else true
 
+-- each private key of a plan is where its number says
 abbrev pub are_attempts_placed : List AttemptInput → Bool
 are_attempts_placed plan = list_all is_attempt_placed plan
 
+-- a host key is where its number says: the suite holds its private key, or has its public key as a key that is elsewhere
 abbrev pub is_key_placed : HostKeyInput → Bool
 is_key_placed key = if key.place == KEY_HERE then is_held key.algorithm.now key.key.now else is_elsewhere key.algorithm.now key.key.now
 
+-- each host key is where its number says
 abbrev pub are_keys_placed : List HostKeyInput → Bool
 are_keys_placed keys = list_all is_key_placed keys
 
@@ -57,6 +60,7 @@ pub record IsFitClient (client : ClientInput) : Type 0 where
   pub named : IsDeployed (client_names (client_of client))
   pub placed : are_attempts_placed client.plan.now ≡ true
 
+-- the suite has each algorithm that the server's config names, and each host key is where its number says
 pub record IsFitServer (server : ServerInput) : Type 0 where
   pub named : IsDeployed (server_names (server_of server))
   pub placed : are_keys_placed server.host_keys.now ≡ true
@@ -65,11 +69,14 @@ pub record IsFitServer (server : ServerInput) : Type 0 where
 abbrev pub IsUnfit : List DemandData → Bool → ℕ → Type 0
 IsUnfit named placed number = ((number ≡ 13) × (IsDeployed named → ⊥)) ⊎ ((number ≡ 14) × IsDeployed named × (placed ≡ false))
 
--- a rule is broken; or none of it is told, and the suite doesn't fit
+-- The client's config breaks a rule, of which this is the least number, 1 for C1. Or the suite lacks what the config asks for: then this is
+-- 13 for an algorithm, 14 for a private key.
 abbrev pub IsRefusedClient : ClientInput → ℕ → Type 0
 IsRefusedClient client number =
     IsRefused (λ rule. ClientRule rule (client_of client)) number ⊎ IsUnfit (client_names (client_of client)) (are_attempts_placed client.plan.now) number
 
+-- The server's config breaks a rule, of which this is the least number, 1 for C1. Or the suite lacks what the config asks for: then this is
+-- 13 for an algorithm, 14 for a private key.
 abbrev pub IsRefusedServer : ServerInput → ℕ → Type 0
 IsRefusedServer server number =
     IsRefused (λ rule. ServerRule rule (server_of server)) number ⊎ IsUnfit (server_names (server_of server)) (are_keys_placed server.host_keys.now) number
@@ -80,10 +87,12 @@ Refuses Rule Texts named placed (no.Input f) = f ≡ fault.Unreadable → Texts 
 Refuses Rule Texts named placed (no.Parts code) = code ≢ config.Memory → IsLeastBroken Rule code
 Refuses Rule Texts named placed (no.Unfit number) = IsUnfit named placed number
 
+-- why there is no config for a client's input: a text, an entry, a rule, or what the suite lacks
 abbrev pub RefusesClient : ClientInput → NoConfig → Type 0
 RefusesClient client f =
     Refuses (λ rule. ClientRule rule (client_of client)) (AreClientTexts client) (client_names (client_of client)) (are_attempts_placed client.plan.now) f
 
+-- why there is no config for a server's input: a text, an entry, a rule, or what the suite lacks
 abbrev pub RefusesServer : ServerInput → NoConfig → Type 0
 RefusesServer server f =
     Refuses (λ rule. ServerRule rule (server_of server)) (AreServerTexts server) (server_names (server_of server)) (are_keys_placed server.host_keys.now) f

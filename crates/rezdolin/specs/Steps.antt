@@ -66,13 +66,15 @@ StandsNow setup digest h s end bytes told =
     ((question : Option QuestionData) × StandsBy setup digest bytes question h s × (end ≡ told_end Open question) × (told ≡ told_question question))
     ⊎ ((bytes ≡ []) × HasEnded setup h s end told)
 
--- What a call is given: nothing; the record of an endpoint that has received and sent so; or that, and the answer to its question.
+-- a call is given no record: the endpoint has received and sent nothing
 abbrev pub Starts : Setup → List ℕ → List ℕ → Type 0
 Starts setup h s = (h ≡ []) × (s ≡ [])
 
+-- these bytes are the record, made for these parts, of an endpoint that has received h and sent s
 abbrev pub StandsHere : List ℕ → List ℕ → Setup → List ℕ → List ℕ → Type 0
 StandsHere digest bytes setup h s = (question : Option QuestionData) × StandsBy setup digest bytes question h s
 
+-- These bytes are the record of an endpoint that has received h and sent s and asks a question. This is the answer that the decisions give.
 abbrev pub IsAnswered : AnswerData → List ℕ → List ℕ → Setup → List ℕ → List ℕ → Type 0
 IsAnswered answer digest bytes setup h s =
     (question : QuestionData) × StandsBy setup digest bytes (Some question) h s × (decided setup.decisions question ≡ answer)
@@ -111,11 +113,12 @@ is_of_kind (Decided allowed) question = true
 is_of_kind (Signed signature) (SignatureQuestion number algorithm key input) = true
 is_of_kind (Signed signature) question = false
 
+-- an answer is of the kind of the question; to no question there is none
 abbrev pub is_for : AnswerData → Option QuestionData → Bool
 is_for answer None = false
 is_for answer (Some question) = is_of_kind answer question
 
--- the public key of this private key stands at the front of the room
+-- the public key of this private key stands at the front of the room (RFC 8709 section 4)
 abbrev pub IsBlob : SuiteData → List ℕ → List ℕ → ℕ → List ℕ → Type 0
 IsBlob m private_key room n new = IsPut (m.blob (codes "ssh-ed25519") private_key) room n new
 
@@ -130,12 +133,14 @@ pub record IsToldOf (came : Came) (answer : StepAnswer) (out next told new_out n
   pub record_put : IsPut came.record.items next answer.record_len new_next
   pub told_put : IsPut came.told.items told answer.told_len new_told
 
--- Or one of the rooms is too small for its bytes, and no room has changed: how much each has to have.
+-- one of the rooms is too small for its bytes, and no room has changed; the answer says how much each has to have
 pub record LacksRoom (came : Came) (answer : StepAnswer) (out next told new_out new_next new_told : List ℕ) : Type 0 where
   pub answer_is : answer ≡ lacks_room came
   pub short : (length out < length came.sent.items) ⊎ (length next < length came.record.items) ⊎ (length told < length came.told.items)
   pub kept : (new_out ≡ out) × (new_next ≡ next) × (new_told ≡ told)
 
+-- The answer and the rooms have what the call came to, whole. Or a room is too small: then the answer says how much each has to have, and
+-- no room has changed.
 abbrev pub Tells : Came → StepAnswer → List ℕ → List ℕ → List ℕ → List ℕ → List ℕ → List ℕ → Type 0
 Tells came answer out next told new_out new_next new_told =
     IsToldOf came answer out next told new_out new_next new_told ⊎ LacksRoom came answer out next told new_out new_next new_told
@@ -152,11 +157,12 @@ pub record Holds (bytes piece : List ℕ) (came : Came) : Type 0 where
   pub stands : (parts : Parts) (d : DecisionsData) (h s : List ℕ) → StandsHere (digest_of parts) bytes (setup_of parts d) h s
       → StandsBy (setup_of parts d) (digest_of parts) came.record.items None (h ++ piece) s
 
--- what calls come to that begin an endpoint, go on with bytes, of which all are used while it is open and asks nothing, go on with an
--- answer, or disconnect; they go on from a record alone that was written for these parts
+-- a call comes to this that begins an endpoint; it uses no bytes
 abbrev pub Begins : Parts → Came → Type 0
 Begins parts came = (came.used ≡ 0) × ComesTo parts Starts [] came.sent.items came.end came.record.items came.told.items
 
+-- A call goes on from this record with so many of these bytes: with all, if the endpoint is open afterwards. The record was written for
+-- these parts.
 abbrev pub ReadsOn : Parts → List ℕ → List ℕ → Came → Type 0
 ReadsOn parts bytes piece came =
     IsFrameOf bytes (digest_of parts)
@@ -164,9 +170,11 @@ ReadsOn parts bytes piece came =
     × (came.end.end ≡ END_OPEN → came.used ≡ length piece)
     × ComesTo parts (StandsHere (digest_of parts) bytes) (take came.used piece) came.sent.items came.end came.record.items came.told.items
 
+-- a call goes on from this record with these bytes: it reads on (`ReadsOn`), or only holds them (`Holds`)
 abbrev pub GoesOn : Parts → List ℕ → List ℕ → Came → Type 0
 GoesOn parts bytes piece came = ReadsOn parts bytes piece came ⊎ Holds bytes piece came
 
+-- A call goes on from this record of an endpoint that asks, with the answer of this number and this signature. It uses no bytes.
 abbrev pub IsAnsweredBy : Parts → List ℕ → ℕ → List ℕ → Came → Type 0
 IsAnsweredBy parts bytes number signature came =
     (a : AnswerData) × IsReply number signature a
@@ -174,6 +182,8 @@ IsAnsweredBy parts bytes number signature came =
     × (came.used ≡ 0)
     × ComesTo parts (IsAnswered a (digest_of parts) bytes) [] came.sent.items came.end came.record.items came.told.items
 
+-- A call disconnects from this record: the endpoint has sent a DISCONNECT with this reason and description, and has ended (RFC 4253 section
+-- 11.1).
 abbrev pub Disconnects : Parts → List ℕ → ℕ → List ℕ → Came → Type 0
 Disconnects parts bytes reason description came =
     (came.used ≡ 0) × Leaves parts bytes reason description came.sent.items came.end came.record.items came.told.items

@@ -29,6 +29,7 @@ abbrev pub frame_step : FrameFault → NoStep
 frame_step frame.Record = no.Record
 frame_step frame.Parts = no.Parts
 
+-- why a call doesn't go on from a record that is refused
 abbrev pub record_step : RecordFault → NoStep
 record_step fault.Memory = no.Memory
 record_step fault.Version = no.Record
@@ -69,17 +70,18 @@ WhyNotFrom parts bytes no.Parts = IsOfOthers parts bytes
 WhyNotFrom parts bytes no.Unasked = ⊥
 WhyNotFrom parts bytes no.Memory = Unit {0}
 
--- and why it doesn't with an answer: the endpoint asks nothing that this answers; or the number is none, or that of no such answer
+-- why a call doesn't go on with this answer: the endpoint asks nothing that it answers, or there is no endpoint to go on from
 abbrev pub WhyNoReply : Parts → List ℕ → AnswerData → NoStep → Type 0
 WhyNoReply parts bytes a no.Unasked =
     (d : DecisionsData) (h s : List ℕ) (question : Option QuestionData) → StandsBy (setup_of parts d) (digest_of parts) bytes question h s → is_for a question ≡ false
 WhyNoReply parts bytes a f = WhyNotFrom parts bytes f
 
+-- why a call doesn't go on with an answer: the number is that of no answer, or the endpoint asks nothing that this answers
 abbrev pub WhyNoAnswer : Parts → List ℕ → ℕ → List ℕ → NoStep → Type 0
 WhyNoAnswer parts bytes number signature no.Unreadable = AreRead parts → (a : AnswerData) → IsReply number signature a → ⊥
 WhyNoAnswer parts bytes number signature f = (a : AnswerData) × IsReply number signature a × WhyNoReply parts bytes a f
 
--- and why it doesn't disconnect: the description isn't UTF-8
+-- why a call doesn't disconnect: the description isn't UTF-8, or there is no endpoint to go on from
 abbrev pub WhyNoLeave : Parts → List ℕ → List ℕ → NoStep → Type 0
 WhyNoLeave parts bytes description no.Unreadable = AreRead parts → IsUtf8 description → ⊥
 WhyNoLeave parts bytes description f = WhyNotFrom parts bytes f

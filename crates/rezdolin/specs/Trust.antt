@@ -22,7 +22,8 @@ proves entry (KeyProof algorithm blob) = entry.method == METHOD_PUBLICKEY && byt
 abbrev pub accepts : List UserInput → List ℕ → ProofData → Bool
 accepts users user proof = list_any (λ entry. bytes_eq entry.user.now user && proves entry proof) users
 
--- these host keys are trusted, and these users are accepted
+-- A host key is trusted if it is in the list. A user is accepted by an entry with this user and what the request proves. No signature is
+-- made.
 abbrev pub trust_policy : List (Bor (List ℕ)) → List UserInput → DecisionsData
 trust_policy keys users = record {
   host_key = λ algorithm blob. is_trusted keys blob;

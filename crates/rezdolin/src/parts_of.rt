@@ -5,7 +5,7 @@ ghost use Rattle.sshsuite.specs.declared.deployed_suite.DeployedSuite.{DeployedS
 ghost use Rattle.sshcore.specs.declared.record_fault.RecordFault.TheVariants as no_record;
 ghost use Rattle.sshcore.specs.Asking.{AskingMade};
 ghost use Rattle.sshcore.specs.EndpointParts.{DecisionsData};
-ghost use Rattle.rezdolin.specs.Endpoints.{AreAllowed, AreListed, AreRead, IsConfigOf, IsNone, RefusesParts, Resumes, Trusts, digest_of, means, party_in, role_in};
+ghost use Rattle.rezdolin.specs.Endpoints.{AreAllowed, AreListed, AreRead, IsConfigOf, IsNone, RefusesParts, Resumes, Trusts, config_in, digest_of, means, role_in};
 
 use crate::inputs::{ClientInput, ServerInput};
 use crate::parts::{NoConfig, client_config, server_config};
@@ -97,7 +97,7 @@ impl Config {
         alloc: Global,
         out: &mut Vec<u8>,
     ) -> Result<AskingEndpoint<'a, DeployedSuite, Silent>, Memory>
-        ensures made { IfOk result (λ e. (suite : DeployedSuite) × AskingMade means (role_in self.now) (party_in self.now) suite e out.old.items out.new.items) }
+        ensures made { IfOk result (λ e. (suite : DeployedSuite) × AskingMade means (role_in self.now) (config_in self.now) suite e out.old.items out.new.items) }
     {
         match self {
             Config::Client(config) => {
@@ -115,8 +115,8 @@ impl Config {
         alloc: Global,
         text: &[u8],
     ) -> Result<AskingEndpoint<'a, DeployedSuite, Silent>, RecordFault>
-        ensures resumes { IfOk result (λ e. Resumes (role_in self.now) (party_in self.now) text.now e) }
-        ensures refused { IfErr result (λ f. f ≢ no_record.Memory → IsNone (role_in self.now) (party_in self.now) text.now) }
+        ensures resumes { IfOk result (λ e. Resumes (role_in self.now) (config_in self.now) text.now e) }
+        ensures refused { IfErr result (λ f. f ≢ no_record.Memory → IsNone (role_in self.now) (config_in self.now) text.now) }
     {
         match self {
             Config::Client(config) => {

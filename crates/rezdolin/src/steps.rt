@@ -11,7 +11,7 @@ ghost use Rattle.rezdolin.specs.Frames.{framed};
 ghost use Rattle.rezdolin.specs.Questions.{told_end, told_question};
 ghost use Rattle.sshcore.specs.QuestionsView.{question_data};
 ghost use Rattle.sshcore.specs.Record.{IsRecordOf};
-ghost use Rattle.rezdolin.specs.Carried.{CarriesOn, IsReadOn};
+ghost use Rattle.rezdolin.specs.CarriedOn.{CarriesOn, IsReadOn};
 ghost use Rattle.rezdolin.specs.Endpoints.{Trusts, digest_of, means};
 ghost use Rattle.rezdolin.specs.Steps.{Begins, ComesTo, Disconnects, GoesOn, Holds, IsAnswered, IsAnsweredBy, IsReply, ReadsOn, StandsNow, is_for};
 ghost use Rattle.rezdolin.specs.declared.answers.TheConstants.{END_ASKS, END_OPEN};

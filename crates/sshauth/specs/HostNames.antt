@@ -47,10 +47,11 @@ patterns_in names = slice_split (λ byte. byte == 44) names
 abbrev pub are_patterns_of : List ℕ → List ℕ → Bool
 are_patterns_of names host = list_any (includes host) (patterns_in names) && not (list_any (excludes host) (patterns_in names))
 
--- HMAC by SHA-1 of a key of at most 64 bytes (RFC 2104)
+-- the key filled up with zeros to 64 bytes, each XOR this byte (RFC 2104)
 abbrev pub padded : ℕ → List ℕ → List ℕ
 padded byte key = map (λ own. bit_xor own byte) (key ++ replicate (64 - length key) 0)
 
+-- HMAC by SHA-1 of a text, by a key of at most 64 bytes (RFC 2104)
 abbrev pub hmac_sha1 : List ℕ → List ℕ → List ℕ
 hmac_sha1 key text = sha1 (padded 92 key ++ sha1 (padded 54 key ++ text))
 
@@ -58,10 +59,12 @@ hmac_sha1 key text = sha1 (padded 92 key ++ sha1 (padded 54 key ++ text))
 abbrev pub is_hash_of : List ℕ → List ℕ → List ℕ → Bool
 is_hash_of salt hash host = length salt == 20 && bytes_eq hash (hmac_sha1 salt (map to_ascii_lowercase host))
 
+-- a name's hash by this salt, where both could be read
 abbrev pub is_hash_by : Option (List ℕ) → Option (List ℕ) → List ℕ → Bool
 is_hash_by (Some salt) (Some hash) host = is_hash_of salt hash host
 is_hash_by _ _ host = false
 
+-- the byte is `|`
 abbrev pub is_bar : ℕ → Bool
 is_bar byte = byte == 124
 

@@ -16,5 +16,6 @@ row_after_any found (x ∷ row) = (found || x) ∷ row_after_any (found || x) ro
 abbrev pub row_after_one : ℕ → List ℕ → List Bool → List Bool
 row_after_one p text row = false ∷ map (λ pair. is_like p pair.0 && pair.1) (zip text row)
 
+-- the row after one more byte of the pattern, which may be `*`
 abbrev pub next_row : ℕ → List ℕ → List Bool → List Bool
 next_row p text row = if p == 42 then row_after_any false row else row_after_one p text row

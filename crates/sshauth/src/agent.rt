@@ -8,6 +8,7 @@ use crate::agent_fault::AgentFault;
 use crate::agent_messages::{fits, sign_request, signature_in};
 use crate::fault::Fault;
 use crate::files::check_private;
+use sshidentity::FileFault;
 use sshpacket::{SIGNATURE_LIMIT, Suite};
 use sshsuite::DeployedSuite;
 use sshwire::as_name;
@@ -34,7 +35,12 @@ impl Agent<'_> {
     /// Refuses files that aren't there, or that others may use: who writes a request has the agent sign.
     pub(crate) fn check(&self, rt: &HostRuntime) -> Result<(), Fault> {
         check_private(rt, REQUESTS, self.requests, Fault::Unwritable(REQUESTS))?;
-        check_private(rt, RESPONSES, self.responses, Fault::File(RESPONSES))
+        check_private(
+            rt,
+            RESPONSES,
+            self.responses,
+            Fault::File(FileFault::Unreadable(RESPONSES)),
+        )
     }
 
     /// The agent's signature of the input by the key of this blob. It is verified, where the suite verifies by this algorithm.

@@ -4,9 +4,10 @@ ghost use Rattle.std.specs.Prelude.{◌≡◌, IfOk, map};
 ghost use Rattle.sshauth.specs.KeyLines.{first_line, keys_in};
 
 use crate::fault::Fault;
-use crate::files::{bytes_if_there, bytes_of};
+use crate::files::bytes_if_there;
 use crate::key_lines::{KeyLine, first_line, keys_in};
 use crate::report;
+use sshidentity::bytes_of;
 use std::alloc::Global;
 
 /// The keys of a file of authorized_keys: those of its lines `ssh-ed25519 KEY COMMENT` and `ssh-rsa KEY COMMENT`. A line with

@@ -1,7 +1,7 @@
 //! Why the program doesn't begin, or doesn't go on.
 
 use sshcore::{ConfigFault, LinkFault};
-use sshidentity::IdentityFault;
+use sshidentity::FileFault;
 use sshwire::{Memory, WireFault};
 use std::alloc::{AllocError, AllocFailed};
 use std::fmt;
@@ -19,12 +19,8 @@ pub(crate) enum Fault {
     Write,
     /// No random bytes are to be had.
     Random,
-    /// The file that this option names can't be read.
-    File(&'static str),
-    /// The file that this option names isn't what it has to be.
-    Form(&'static str),
-    /// The file that this option names has no private key that can be used.
-    Key(&'static str, KeyFault),
+    /// A file that an option names can't be used.
+    File(FileFault),
     /// The parts are refused.
     Config(ConfigFault),
     /// The suite hasn't all that the parts name, by this code.
@@ -51,13 +47,8 @@ impl Fault {
 impl fmt::Display for Fault {
     fn fmt<W: fmt::Write>(&self, f: &mut fmt::Formatter<W>) -> fmt::Result {
         match self {
-            Fault::File(option) => write!(f, "the file of --{option} can't be read"),
-            Fault::Form(option) => write!(
-                f,
-                "the file of --{option} hasn't the form that it needs"
-            ),
+            Fault::File(fault) => write!(f, "{fault}"),
             Fault::Unwritable(option) => write!(f, "the file of --{option} can't be written"),
-            Fault::Key(option, fault) => write!(f, "the file of --{option} {}", fault.words()),
             Fault::Suite(code) => write!(
                 f,
                 "the settings are refused: {code}: the suite hasn't all that they name"
@@ -99,6 +90,15 @@ impl<T: Drop> From<AllocFailed<T>> for Fault {
     }
 }
 
+impl From<FileFault> for Fault {
+    fn from(fault: FileFault) -> Fault {
+        match fault {
+            FileFault::Memory => Fault::Memory,
+            _ => Fault::File(fault),
+        }
+    }
+}
+
 impl From<ConfigFault> for Fault {
     fn from(fault: ConfigFault) -> Fault {
         match fault {
@@ -122,31 +122,6 @@ impl From<WireFault> for Fault {
         match fault {
             WireFault::Memory => Fault::Memory,
             _ => Fault::Session,
-        }
-    }
-}
-
-/// Why a file has no private key that can be used.
-#[derive(Clone, Copy)]
-pub(crate) enum KeyFault {
-    /// There is none in its text.
-    Identity(IdentityFault),
-    /// Others may read it, or write to it.
-    Readable,
-    /// Its public key is of another kind than its line says.
-    Contradicts,
-    /// Its line's public key can't be read.
-    Blob,
-}
-
-impl KeyFault {
-    /// What is told of the file.
-    fn words(&self) -> &'static str {
-        match self {
-            KeyFault::Identity(fault) => fault.words(),
-            KeyFault::Readable => "may be read or written by others than its owner",
-            KeyFault::Contradicts => "has a public key of another kind than its line says",
-            KeyFault::Blob => "has a public key that can't be read",
         }
     }
 }

@@ -1,27 +1,11 @@
-//! Files that the words name, read whole.
+//! Files that may lack, and files of an agent.
 
-use crate::fault::{Fault, KeyFault};
+use crate::fault::Fault;
+use sshidentity::{FileFault, KeyFault, is_private};
 use std::fs;
 use std::io::ErrorKind;
-use std::os::unix::fs::PermissionsExt;
 
-/// The bits of a file's mode by which others than its owner may read, write or run it.
-const OTHERS: u32 = 0o077;
-
-/// The bytes of the file that the option names.
-pub(crate) fn bytes_of(
-    rt: &HostRuntime,
-    option: &'static str,
-    path: &str,
-) -> Result<Vec<u8>, Fault> {
-    match fs::read(rt, path) {
-        Ok(bytes) => Ok(bytes),
-        Err(error) if error.kind() == ErrorKind::OutOfMemory => Err(Fault::Memory),
-        Err(_) => Err(Fault::File(option)),
-    }
-}
-
-/// The same of a file that may lack.
+/// The bytes of the file that the option names, if it is there.
 pub(crate) fn bytes_if_there(
     rt: &HostRuntime,
     option: &'static str,
@@ -31,19 +15,7 @@ pub(crate) fn bytes_if_there(
         Ok(bytes) => Ok(Some(bytes)),
         Err(error) if error.kind() == ErrorKind::NotFound => Ok(None),
         Err(error) if error.kind() == ErrorKind::OutOfMemory => Err(Fault::Memory),
-        Err(_) => Err(Fault::File(option)),
-    }
-}
-
-/// Whether the file may be read and written by its owner alone.
-pub(crate) fn is_private(
-    rt: &HostRuntime,
-    option: &'static str,
-    path: &str,
-) -> Result<bool, Fault> {
-    match fs::metadata(rt, path) {
-        Ok(metadata) => Ok(metadata.permissions().mode() & OTHERS == 0),
-        Err(_) => Err(Fault::File(option)),
+        Err(_) => Err(Fault::File(FileFault::Unreadable(option))),
     }
 }
 
@@ -56,34 +28,10 @@ pub(crate) fn check_private(
 ) -> Result<(), Fault> {
     match fs::metadata(rt, path) {
         Ok(metadata) if metadata.is_dir() => Err(otherwise),
-        Ok(metadata) if metadata.permissions().mode() & OTHERS != 0 => {
-            Err(Fault::Key(option, KeyFault::Readable))
+        Ok(metadata) if !is_private(&metadata) => {
+            Err(Fault::File(FileFault::Key(option, KeyFault::Readable)))
         }
         Ok(_) => Ok(()),
         Err(_) => Err(otherwise),
     }
-}
-
-/// The bytes of a file that is text, as text.
-pub(crate) fn text_in<'a>(option: &'static str, bytes: &'a [u8]) -> Result<&'a str, Fault> {
-    match str::from_utf8(bytes) {
-        Ok(text) => Ok(text),
-        Err(_) => Err(Fault::Form(option)),
-    }
-}
-
-/// The first line of the file that the option names, without its end: an empty one is refused, since it would be a password
-/// that anyone has.
-pub(crate) fn first_line(
-    rt: &HostRuntime,
-    option: &'static str,
-    path: &str,
-) -> Result<Vec<u8>, Fault> {
-    let bytes = bytes_of(rt, option, path)?;
-    let line = bytes.split(|byte| *byte == b'\n').next().unwrap_or(&[]);
-    let line = line.strip_suffix(b"\r").unwrap_or(line);
-    if line.is_empty() {
-        return Err(Fault::Form(option));
-    }
-    Ok(Vec::from_slice(rt.alloc(), line)?)
 }

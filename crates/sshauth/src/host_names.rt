@@ -8,8 +8,8 @@ ghost use Rattle.sha1.specs.Sha1.{sha1};
 ghost use Rattle.sshauth.specs.HostNames.{excludes, hmac_sha1, includes, is_bar, is_hash_of, is_hashed_name, is_like, matches, mean, padded, patterns_in};
 ghost use Rattle.sshauth.specs.PatternRows.{first_row, next_row, row_after_any, row_after_one};
 
+use crate::base64_digits::base64_of;
 use crate::fault::Fault;
-use crate::identity::base64_of;
 use sha1::Sha1;
 use sshwire::Memory;
 use std::alloc::Global;

@@ -4,9 +4,10 @@ ghost use Rattle.std.specs.Prelude.{◌≡◌, ◌==◌, IfOk, map, not, option_
 ghost use Rattle.std.specs.List.{slice_split};
 ghost use Rattle.sshauth.specs.KeyLines.{after_word, first_line, first_word, front_of, is_blank, is_line, key_at, key_in, key_text, keys_in, means, unblanked};
 
+use crate::base64_digits::base64_of;
 use crate::fault::Fault;
 use crate::host_names::mean;
-use crate::identity::base64_of;
+use sshidentity::FileFault;
 use std::alloc::Global;
 
 /// The words in front of a key.
@@ -147,7 +148,7 @@ fn key_at(alloc: Global, option: &'static str, text: &[u8]) -> Result<Option<Vec
     };
     match base64_of(alloc, cut_word(after).0)? {
         Some(key) if key.starts_with(front) => Ok(Some(key)),
-        _ => Err(Fault::Form(option)),
+        _ => Err(Fault::File(FileFault::Form(option))),
     }
 }
 

@@ -51,7 +51,7 @@ impl Notices {
 }
 
 impl Listener for Notices {
-    fn told(&self, notice: Notice<'_>) {
+    fn notice(&self, notice: Notice<'_>) {
         self.keep(notice);
     }
 }
@@ -86,7 +86,7 @@ impl<D: Decisions> Decisions for Listening<'_, D> {
             .signature(alloc, number, algorithm, blob, input)
     }
 
-    fn told(&self, notice: Notice<'_>) {
+    fn notice(&self, notice: Notice<'_>) {
         self.notices.keep(notice);
     }
 }

@@ -4,14 +4,13 @@ ghost use Rattle.std.specs.Prelude.{◌≡◌, IfOk, IfSome, false, string_bytes
 ghost use Rattle.sshwire.specs.Types.{IsName};
 ghost use Rattle.sshsuite.specs.Deployed.{deployed};
 
-use crate::fault::{Fault, KeyFault};
-use crate::files::{bytes_of, text_in};
-use crate::identity::{base64_of, private_key};
+use crate::base64_digits::base64_of;
+use crate::fault::Fault;
 use crate::key_lines::cut_word;
 use crate::parts::ALGORITHM;
 use crate::settings::Settings;
 use sshcore::PRIVATE_KEY_LIMIT;
-use sshidentity::IdentityFault;
+use sshidentity::{FileFault, IdentityFault, KeyFault, bytes_of, private_key, text_in};
 use sshpacket::Suite;
 use sshsuite::DeployedSuite;
 use sshwire::{Reader, as_name};
@@ -45,7 +44,7 @@ pub(crate) fn own_key(
         )?,
         Err(fault) => Err(fault),
     };
-    found.map_err(|fault| Fault::Key(option, fault))
+    found.map_err(|fault| Fault::File(FileFault::Key(option, fault)))
 }
 
 /// The public key of the one line that the text is, or why it has none. It is none of the suite's private keys.

@@ -2,7 +2,6 @@
 
 use crate::authorized::{HostKeys, authorized_keys, known_hosts};
 use crate::fault::Fault;
-use crate::files::{bytes_of, first_line};
 use crate::host_keys::ALL_ALGORITHMS;
 use crate::own_key::{OwnKey, own_key};
 use crate::settings::Settings;
@@ -11,6 +10,7 @@ use sshcore::{
     Attempt, ClientConfig, ClientParts, Credential, Draws, HostKey, ServerConfig, ServerParts,
     SideParts, SuiteFault,
 };
+use sshidentity::{bytes_of, first_line};
 use sshsuite::DeployedSuite;
 use std::alloc::Global;
 use std::random::RandomSource;

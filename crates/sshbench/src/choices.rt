@@ -2,9 +2,9 @@
 
 use crate::fault::{Fault, holds};
 use crate::kexinit::payload_of;
+use sshlabsuites::LabSuite;
 use sshmsg::{KexInit, Message, read};
 use sshneg::{Chosen, choose};
-use sshsuites::LabSuite;
 use std::alloc::Global;
 use std::fmt::Write;
 

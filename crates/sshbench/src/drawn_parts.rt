@@ -10,7 +10,7 @@ use sshcore::{
     Attempt, ClientConfig, ClientParts, Credential, Decisions, Proof, ServerConfig, ServerParts,
     SideParts,
 };
-use sshsuites::{lab_client_parts, lab_server_parts};
+use sshlabsuites::{lab_client_parts, lab_server_parts};
 use sshwire::Memory;
 use std::alloc::Global;
 

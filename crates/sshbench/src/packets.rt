@@ -1,8 +1,8 @@
 //! Streams of packets, read in pieces.
 
 use crate::fault::{Fault, holds};
+use sshlabsuites::LabSuite;
 use sshpacket::{KeyParts, Keys, PacketReader, PacketStep, write_clear, write_next};
-use sshsuites::LabSuite;
 use sshwire::PAYLOAD_LIMIT;
 use std::alloc::{AllocError, Global};
 

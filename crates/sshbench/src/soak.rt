@@ -8,7 +8,7 @@ use crate::talk::is_user;
 use rand_core::SeedableRng;
 use rand_xoshiro::SplitMix64;
 use sshcore::{Agreed, ClientConfig, End, ServerConfig};
-use sshsuites::LabSuite;
+use sshlabsuites::LabSuite;
 use sshworld::{Side, World, predict};
 use std::alloc::Global;
 use std::io::Write;

@@ -5,8 +5,8 @@ use crate::fault::{Fault, holds};
 use sshcore::{
     Attempt, ClientConfig, ClientParts, Credential, End, Endpoint, ServerConfig, ServerParts,
 };
+use sshlabsuites::{LabSuite, lab_client_parts, lab_server_parts};
 use sshneg::Side;
-use sshsuites::{LabSuite, lab_client_parts, lab_server_parts};
 use std::alloc::Global;
 
 /// How often each side is given what the other has sent.

@@ -4,16 +4,16 @@
 use Rattle.std.specs.Prelude.{ℕ, ◌==◌, ◌||◌, Bool, true, false, List, codes, if◌then◌else◌}
 use Rattle.sshneg.specs.declared.side.Side.{Side}
 use Rattle.sshneg.specs.declared.side.Side.TheVariants.{Client}
-use Rattle.sshcore.specs.declared.table.Line.{Line}
-use Rattle.sshcore.specs.declared.table.Line.TheVariants as line
-use Rattle.sshcore.specs.declared.table.Phase.{Phase}
-use Rattle.sshcore.specs.declared.table.Phase.TheVariants as phase
+use Rattle.sshcore.specs.declared.phase_table.Disposition.{Disposition}
+use Rattle.sshcore.specs.declared.phase_table.Disposition.TheVariants as disposition
+use Rattle.sshcore.specs.declared.phase_table.Phase.{Phase}
+use Rattle.sshcore.specs.declared.phase_table.Phase.TheVariants as phase
 use Rattle.sshcore.specs.Phases.{leaving}
-use Rattle.sshcore.specs.Table.{line_by}
+use Rattle.sshcore.specs.Table.{disposition_by}
 use Rattle.sshchecks.specs.declared.sweep.Place.{Place}
 use Rattle.sshchecks.specs.declared.sweep.Place.TheVariants as place
 
--- what an endpoint waits for at a place, and whether strictness was agreed
+-- the phase of an endpoint at a place
 abbrev pub phase_at : Place → Phase
 phase_at place.KexInit = phase.Exchange
 phase_at place.KexInitStrict = phase.Exchange
@@ -21,6 +21,7 @@ phase_at place.NewKeysStrict = phase.NewKeys
 phase_at place.Service = phase.Service
 phase_at place.Auth = phase.Auth
 
+-- whether strict key exchange was agreed at this place
 abbrev pub strict_at : Place → Bool
 strict_at place.KexInit = false
 strict_at place.KexInitStrict = true
@@ -34,14 +35,15 @@ may_wait Client place.Auth number = number == 60
 may_wait role at number = false
 
 -- what is expected by a line of the table
-abbrev pub words_of : Line → List ℕ
-words_of line.Unknown = codes "unimplemented"
-words_of line.Reads = codes "ends"
-words_of line.Drops = codes "ends"
-words_of line.Deviates = codes "ends"
-words_of line.Unexpected = codes "ends"
+abbrev pub words_of : Disposition → List ℕ
+words_of disposition.Unknown = codes "unimplemented"
+words_of disposition.Reads = codes "ends"
+words_of disposition.Drops = codes "ends"
+words_of disposition.Deviates = codes "ends"
+words_of disposition.Unexpected = codes "ends"
 
+-- what a check expects when it sends a message of this number at this place
 abbrev pub expected : Side → Place → ℕ → List ℕ
 expected role at number =
     if number == leaving role (phase_at at) || may_wait role at number then codes "ends|goes_on|unimplemented|silent|garbled|FAILURE"
-    else words_of (line_by role (phase_at at) (strict_at at) false false number)
+    else words_of (disposition_by role (phase_at at) (strict_at at) false false number)

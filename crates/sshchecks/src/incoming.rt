@@ -25,7 +25,7 @@ const LINES_LIMIT: u32 = 1024;
 pub(crate) struct Incoming {
     packets: PacketReader,
     /// The keys from the peer's NEWKEYS on.
-    pub(crate) next_keys: Option<Keys>,
+    next_keys: Option<Keys>,
     /// What came and isn't read.
     pending: Vec<u8>,
     /// How many lines stood before the version line.
@@ -127,6 +127,11 @@ impl Incoming {
         };
         self.drop_front(alloc, used)?;
         Ok(front)
+    }
+
+    /// The keys from the peer's NEWKEYS on.
+    pub(crate) fn set_next(&mut self, keys: Keys) {
+        self.next_keys = Some(keys);
     }
 
     /// The peer's NEWKEYS came: what follows is opened by the next keys, where there are some. Answers whether there were.

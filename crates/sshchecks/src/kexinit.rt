@@ -47,8 +47,24 @@ impl OwnLists {
         self.tail = bytes;
     }
 
-    /// Puts bytes in the place of a list.
-    pub(crate) fn set(&mut self, place: usize, bytes: Vec<u8>) {
+    /// Puts bytes in the place of a list, or of this and the next one.
+    pub(crate) fn set<'a>(
+        &mut self,
+        alloc: Global,
+        place: usize,
+        both: bool,
+        bytes: Vec<u8>,
+    ) -> Result<(), PlayFault<'a>> {
+        if both {
+            let copy = Vec::from_slice(alloc, &bytes)?;
+            self.set_one(place.saturating_add(1), copy);
+        }
+        self.set_one(place, bytes);
+        Ok(())
+    }
+
+    /// Puts bytes in the place of one list.
+    fn set_one(&mut self, place: usize, bytes: Vec<u8>) {
         if let Some(list) = self.bent.get_mut(place) {
             *list = Some(bytes);
         }

@@ -35,6 +35,15 @@ impl Sides {
         })
     }
 
+    /// The payload of the own KEXINIT that a step has sent, or else this one.
+    pub(crate) fn own_kexinit_or<'b>(&'b self, otherwise: &'b [u8]) -> &'b [u8] {
+        if self.own_kexinit.is_empty() {
+            otherwise
+        } else {
+            self.own_kexinit.as_slice()
+        }
+    }
+
     /// Takes the payload of the peer's KEXINIT. `own` is the own one, `first` says that it is the first of the session.
     pub(crate) fn take_kexinit<'a>(
         &mut self,

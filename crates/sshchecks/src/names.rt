@@ -41,6 +41,27 @@ impl Names {
         Ok(())
     }
 
+    /// Names a copy of bytes.
+    pub(crate) fn set_copy<'a>(
+        &mut self,
+        alloc: Global,
+        name: &str,
+        bytes: &[u8],
+    ) -> Result<(), PlayFault<'a>> {
+        let copy = Vec::from_slice(alloc, bytes)?;
+        self.set(alloc, name, copy)
+    }
+
+    /// The bytes that have the name; none of a name that isn't there.
+    pub(crate) fn bytes(&self, name: &str) -> &[u8] {
+        self.find(name).unwrap_or(&[])
+    }
+
+    /// A copy of these.
+    pub(crate) fn copy_of<'a>(&self, alloc: Global, name: &str) -> Result<Vec<u8>, PlayFault<'a>> {
+        Ok(Vec::from_slice(alloc, self.bytes(name))?)
+    }
+
     /// The bytes that have the name.
     pub(crate) fn find(&self, name: &str) -> Option<&[u8]> {
         for named in self.all.iter() {

@@ -199,34 +199,76 @@ pub(crate) fn derived<'a>(
     Ok(Some(keys_of(alloc, &DeployedSuite, &material, sender, cipher, mac)?))
 }
 
-/// The payload of a valid request by the own key, and of a query for it (RFC 4252 section 7), named.
+/// The payload of a valid request by the own key, and of a query for it (RFC 4252 section 7), named. The session identifier
+/// has its name.
 pub(crate) fn name_requests<'a>(
     alloc: Global,
     names: &mut Names,
     setting: &Setting<'_>,
-    session: &[u8],
 ) -> Result<(), PlayFault<'a>> {
     let blob = blob_of(alloc, setting.own_key)?;
-    let query = request(alloc, setting.user, &blob, 0)?;
-    let mut signed = request(alloc, setting.user, &blob, 1)?;
+    name_both(alloc, names, setting, &blob)
+}
+
+/// Names both payloads, for the blob of the own key.
+fn name_both<'a>(
+    alloc: Global,
+    names: &mut Names,
+    setting: &Setting<'_>,
+    blob: &[u8],
+) -> Result<(), PlayFault<'a>> {
+    let query = request(alloc, setting.user, blob, 0)?;
+    names.set(alloc, "query", query)?;
+    let mut signed = request(alloc, setting.user, blob, 1)?;
+    sign_request(alloc, setting, names.bytes("session"), &mut signed)?;
+    names.set(alloc, "good", signed)
+}
+
+/// Appends the signature of a request to its fields.
+fn sign_request<'a>(
+    alloc: Global,
+    setting: &Setting<'_>,
+    session: &[u8],
+    fields: &mut Vec<u8>,
+) -> Result<(), PlayFault<'a>> {
+    let signature = request_signature(alloc, setting, session, fields)?;
+    let put = put_text(fields, &signature);
+    drop(signature);
+    Ok(put?)
+}
+
+/// The signature of the session identifier and a request's fields (RFC 4252 section 7).
+fn request_signature<'a>(
+    alloc: Global,
+    setting: &Setting<'_>,
+    session: &[u8],
+    fields: &[u8],
+) -> Result<Vec<u8>, PlayFault<'a>> {
     let mut input = Vec::new(alloc);
     put_text(&mut input, session)?;
-    input.extend_from_slice(&signed)?;
-    let signature = wrapped_signature(alloc, setting.own_key, &input)?;
-    put_text(&mut signed, &signature)?;
-    names.set(alloc, "query", query)?;
-    names.set(alloc, "good", signed)
+    input.extend_from_slice(fields)?;
+    wrapped_signature(alloc, setting.own_key, &input)
 }
 
 /// The fields of a request up to the key; the flag says whether a signature follows.
 fn request<'a>(alloc: Global, user: &str, blob: &[u8], flag: u8) -> Result<Vec<u8>, PlayFault<'a>> {
     let mut out = Vec::new(alloc);
-    out.push(SSH_MSG_USERAUTH_REQUEST)?;
-    put_text(&mut out, user.as_bytes())?;
-    put_text(&mut out, b"ssh-connection")?;
-    put_text(&mut out, b"publickey")?;
-    out.push(flag)?;
-    put_text(&mut out, KEY.as_bytes())?;
-    put_text(&mut out, blob)?;
+    put_request(&mut out, user, blob, flag)?;
     Ok(out)
+}
+
+/// Appends them.
+fn put_request<'a>(
+    out: &mut Vec<u8>,
+    user: &str,
+    blob: &[u8],
+    flag: u8,
+) -> Result<(), PlayFault<'a>> {
+    out.push(SSH_MSG_USERAUTH_REQUEST)?;
+    put_text(out, user.as_bytes())?;
+    put_text(out, b"ssh-connection")?;
+    put_text(out, b"publickey")?;
+    out.push(flag)?;
+    put_text(out, KEY.as_bytes())?;
+    Ok(put_text(out, blob)?)
 }

@@ -1,8 +1,16 @@
 //! What each step sends or reads.
 
 use crate::fault::PlayFault;
-use crate::incoming::Front;
-use crate::player::{Came, Player, Progress, number_of};
+use crate::incoming::{Front, Incoming};
+use crate::known::Sides;
+use crate::names::Names;
+use crate::own::Own;
+use crate::peer::{Came, Peer};
+use crate::playing_acts::goes_on_if;
+use crate::playing_exchange::{read_reply, send_reply};
+use crate::progress::{Progress, done};
+use crate::sending::Sending;
+use crate::settings::Given;
 use crate::steps::Step;
 use crate::terms::put_text;
 use sshmsg::{
@@ -12,9 +20,7 @@ use sshmsg::{
 };
 use sshneg::Side;
 use sshwire::Reader;
-
-/// The first number of what comes after authentication (RFC 4250 section 4.1.2).
-const CONNECTION: u8 = 80;
+use std::alloc::Global;
 
 /// The methods that a server names.
 const METHODS: &[u8] = b"publickey,password";
@@ -22,229 +28,239 @@ const METHODS: &[u8] = b"publickey,password";
 /// The service of authentication (RFC 4252 section 4).
 const SERVICE: &[u8] = b"ssh-userauth";
 
-impl<'a> Player<'a> {
-    /// Does a step.
-    pub(crate) fn step(
-        &mut self,
-        step: Step,
-        line: &'a str,
-        out: &mut Vec<u8>,
-    ) -> Result<Progress, PlayFault<'a>> {
-        match step {
-            Step::ReadVersion => self.read_version(),
-            Step::ReadKexInit => self.read_kexinit(),
-            Step::ReadInit => self.read_init(),
-            Step::ReadReply => self.read_reply(),
-            Step::ReadNewKeys => self.read_newkeys(),
-            Step::ReadService => self.read_service(),
-            Step::ReadAuth => match self.side {
-                Side::Client => self.read_answer(),
-                Side::Server => self.read_requests(line, out),
-            },
-            Step::ReadOn => self.read_on(),
-            Step::SendReply => self.send_reply(line, out),
-            _ => {
-                self.send(step, line, out)?;
-                Ok(Progress::Done)
-            }
+/// Does a step.
+pub(crate) fn do_step<'a>(
+    given: &Given<'a>,
+    own: &mut Own,
+    sides: &mut Sides,
+    sending: &mut Sending,
+    peer: &mut Peer,
+    step: Step,
+    line: &'a str,
+    out: &mut Vec<u8>,
+) -> Result<Progress, PlayFault<'a>> {
+    match step {
+        Step::ReadVersion => read_version(given.alloc, sides, &mut peer.incoming),
+        Step::ReadKexInit => read_kexinit(given, &own.names, sides, peer),
+        Step::ReadInit => read_init(given.alloc, &mut own.names, sides, peer),
+        Step::ReadReply => read_reply(given, own, sides, sending, peer),
+        Step::ReadNewKeys => peer.read_newkeys(given.alloc, sides.strict),
+        Step::ReadService => peer.read_service(given.alloc, given.side),
+        Step::ReadAuth => match given.side {
+            Side::Client => peer.read_answer(given.alloc),
+            Side::Server => read_requests(given.alloc, sending, peer, line, out),
+        },
+        Step::ReadOn => peer.read_on(given.alloc),
+        Step::SendReply => send_reply(given, own, sides, sending, peer, line, out),
+        _ => done(send(given, own, sides, sending, step, line, out)),
+    }
+}
+
+/// A step that sends something.
+fn send<'a>(
+    given: &Given<'a>,
+    own: &Own,
+    sides: &mut Sides,
+    sending: &mut Sending,
+    step: Step,
+    line: &'a str,
+    out: &mut Vec<u8>,
+) -> Result<(), PlayFault<'a>> {
+    let alloc = given.alloc;
+    match step {
+        Step::SendVersion => Ok(out.extend_from_slice(&own.line)?),
+        Step::SendKexInit => send_kexinit(alloc, &own.names, sides, sending, line, out),
+        Step::SendNewKeys => send_newkeys(alloc, sides.strict, sending, line, out),
+        Step::SendInit => {
+            let share = own.names.bytes("share");
+            sending.put_message(alloc, line, SSH_MSG_KEX_ECDH_INIT, share, out)
         }
-    }
-
-    /// A step that sends something.
-    fn send(&mut self, step: Step, line: &'a str, out: &mut Vec<u8>) -> Result<(), PlayFault<'a>> {
-        match step {
-            Step::SendVersion => {
-                out.extend_from_slice(&self.line)?;
-                Ok(())
-            }
-            Step::SendKexInit => self.send_kexinit(line, out),
-            Step::SendNewKeys => {
-                self.put(line, &[SSH_MSG_NEWKEYS], out)?;
-                self.sending.switch(self.sides.strict);
-                Ok(())
-            }
-            Step::SendInit => {
-                let share = self.named("share")?;
-                self.put_message(line, SSH_MSG_KEX_ECDH_INIT, &share, out)
-            }
-            Step::SendService => match self.side {
-                Side::Client => self.put_message(line, SSH_MSG_SERVICE_REQUEST, SERVICE, out),
-                Side::Server => self.put_message(line, SSH_MSG_SERVICE_ACCEPT, SERVICE, out),
-            },
-            _ => match self.side {
-                Side::Client => {
-                    let signed = self.named("good")?;
-                    self.put(line, &signed, out)
-                }
-                Side::Server => self.put(line, &[SSH_MSG_USERAUTH_SUCCESS], out),
-            },
+        Step::SendService => {
+            let number = match given.side {
+                Side::Client => SSH_MSG_SERVICE_REQUEST,
+                Side::Server => SSH_MSG_SERVICE_ACCEPT,
+            };
+            sending.put_message(alloc, line, number, SERVICE, out)
         }
+        _ => match given.side {
+            Side::Client => sending.put(alloc, line, own.names.bytes("good"), out),
+            Side::Server => sending.put(alloc, line, &[SSH_MSG_USERAUTH_SUCCESS], out),
+        },
     }
+}
 
-    /// Sends a message of one string.
-    fn put_message(
-        &mut self,
-        line: &'a str,
-        number: u8,
-        text: &[u8],
-        out: &mut Vec<u8>,
-    ) -> Result<(), PlayFault<'a>> {
-        let mut payload = Vec::new(self.alloc);
-        payload.push(number)?;
-        put_text(&mut payload, text)?;
-        self.put(line, &payload, out)
-    }
+/// Sends NEWKEYS, after which the own keys are new.
+fn send_newkeys<'a>(
+    alloc: Global,
+    strict: bool,
+    sending: &mut Sending,
+    line: &'a str,
+    out: &mut Vec<u8>,
+) -> Result<(), PlayFault<'a>> {
+    sending.put(alloc, line, &[SSH_MSG_NEWKEYS], out)?;
+    sending.switch(strict);
+    Ok(())
+}
 
-    /// Sends the own KEXINIT; what a reader takes of it is hashed.
-    fn send_kexinit(&mut self, line: &'a str, out: &mut Vec<u8>) -> Result<(), PlayFault<'a>> {
-        let payload = self.named("kexinit")?;
-        let made = self.sending.next(self.alloc, line, &payload)?;
-        out.extend_from_slice(&made.packet)?;
-        self.sides.own_kexinit = made.taken;
-        Ok(())
-    }
+/// Sends the own KEXINIT; what a reader takes of it is hashed.
+fn send_kexinit<'a>(
+    alloc: Global,
+    names: &Names,
+    sides: &mut Sides,
+    sending: &mut Sending,
+    line: &'a str,
+    out: &mut Vec<u8>,
+) -> Result<(), PlayFault<'a>> {
+    let made = sending.next(alloc, line, names.bytes("kexinit"))?;
+    let put = out.extend_from_slice(&made.packet);
+    sides.own_kexinit = made.taken;
+    Ok(put?)
+}
 
-    /// Reads up to the peer's version line.
-    fn read_version(&mut self) -> Result<Progress, PlayFault<'a>> {
-        match self.incoming.line(self.alloc)? {
-            Front::Whole(line) => {
-                self.sides.peer_line = line;
-                Ok(Progress::Done)
-            }
-            Front::More => Ok(Progress::Waits),
-            Front::Garbled => Ok(Progress::Over("garbled")),
+/// Reads up to the peer's version line.
+fn read_version<'a>(
+    alloc: Global,
+    sides: &mut Sides,
+    incoming: &mut Incoming,
+) -> Result<Progress, PlayFault<'a>> {
+    match incoming.line(alloc)? {
+        Front::Whole(line) => {
+            sides.peer_line = line;
+            Ok(Progress::Done)
         }
+        Front::More => Ok(Progress::Waits),
+        Front::Garbled => Ok(Progress::Over("garbled")),
     }
+}
 
-    /// Reads the peer's KEXINIT, and asks whether the check means something.
-    fn read_kexinit(&mut self) -> Result<Progress, PlayFault<'a>> {
-        match self.payload_with(SSH_MSG_KEXINIT)? {
-            Came::Nothing(progress) => Ok(progress),
-            Came::Payload(payload) => {
-                let own = self.named("kexinit")?;
-                let first = self.names.find("session").is_none();
-                let (alloc, side) = (self.alloc, self.side);
-                self.sides.take_kexinit(alloc, side, &own, payload, first)?;
-                Ok(self.goes_on_if(self.check.needs))
-            }
-        }
+/// Reads the peer's KEXINIT, and asks whether the check means something.
+fn read_kexinit<'a>(
+    given: &Given<'a>,
+    names: &Names,
+    sides: &mut Sides,
+    peer: &mut Peer,
+) -> Result<Progress, PlayFault<'a>> {
+    match peer.payload_with(given.alloc, SSH_MSG_KEXINIT)? {
+        Came::Nothing(progress) => Ok(progress),
+        Came::Payload(payload) => take_kexinit(given, names, sides, payload),
     }
+}
 
-    /// Reads the client's share; the packet of its wrong guess is dropped.
-    fn read_init(&mut self) -> Result<Progress, PlayFault<'a>> {
-        if self.sides.guess_is_due {
-            if let Came::Nothing(progress) = self.next_payload()? {
-                return Ok(progress);
-            }
-            self.sides.guess_is_due = false;
-        }
-        match self.payload_with(SSH_MSG_KEX_ECDH_INIT)? {
-            Came::Nothing(progress) => Ok(progress),
-            Came::Payload(payload) => {
-                let mut reader = Reader::new(payload.get(1..).unwrap_or(&[]));
-                let share = reader.string().unwrap_or(&[]);
-                self.name("peer", share)?;
-                Ok(Progress::Done)
-            }
-        }
+/// Takes the payload of the peer's KEXINIT, the first one where there is no session yet.
+fn take_kexinit<'a>(
+    given: &Given<'a>,
+    names: &Names,
+    sides: &mut Sides,
+    payload: Vec<u8>,
+) -> Result<Progress, PlayFault<'a>> {
+    let first = names.find("session").is_none();
+    let own = names.bytes("kexinit");
+    sides.take_kexinit(given.alloc, given.side, own, payload, first)?;
+    Ok(goes_on_if(given.needs, sides))
+}
+
+/// Reads the client's share; the packet of its wrong guess is dropped.
+fn read_init<'a>(
+    alloc: Global,
+    names: &mut Names,
+    sides: &mut Sides,
+    peer: &mut Peer,
+) -> Result<Progress, PlayFault<'a>> {
+    match pass_guess(alloc, sides, peer)? {
+        Progress::Done => read_share(alloc, names, peer),
+        progress => Ok(progress),
     }
+}
 
-    /// Reads NEWKEYS.
-    fn read_newkeys(&mut self) -> Result<Progress, PlayFault<'a>> {
-        match self.payload_with(SSH_MSG_NEWKEYS)? {
-            Came::Nothing(progress) => Ok(progress),
-            Came::Payload(_) => {
-                if self.incoming.switch(self.sides.strict) {
-                    Ok(Progress::Done)
-                } else {
-                    Ok(Progress::Over("garbled"))
-                }
-            }
-        }
+/// Passes over the packet of a wrong guess, where it is due.
+fn pass_guess<'a>(
+    alloc: Global,
+    sides: &mut Sides,
+    peer: &mut Peer,
+) -> Result<Progress, PlayFault<'a>> {
+    if !sides.guess_is_due {
+        return Ok(Progress::Done);
     }
+    let progress = peer.pass(alloc)?;
+    if matches!(progress, Progress::Done) {
+        sides.guess_is_due = false;
+    }
+    Ok(progress)
+}
 
-    /// Reads the request of the service, or its answer.
-    fn read_service(&mut self) -> Result<Progress, PlayFault<'a>> {
-        let wanted = match self.side {
-            Side::Client => SSH_MSG_SERVICE_ACCEPT,
-            Side::Server => SSH_MSG_SERVICE_REQUEST,
+/// Reads the client's share, and names it.
+fn read_share<'a>(
+    alloc: Global,
+    names: &mut Names,
+    peer: &mut Peer,
+) -> Result<Progress, PlayFault<'a>> {
+    match peer.payload_with(alloc, SSH_MSG_KEX_ECDH_INIT)? {
+        Came::Nothing(progress) => Ok(progress),
+        Came::Payload(payload) => done(names.set_copy(alloc, "peer", share_in(&payload))),
+    }
+}
+
+/// The share in a payload; none where it isn't there.
+fn share_in(payload: &[u8]) -> &[u8] {
+    let mut reader = Reader::new(payload.get(1..).unwrap_or(&[]));
+    reader.string().unwrap_or(&[])
+}
+
+/// Answers requests up to one that proves something.
+fn read_requests<'a>(
+    alloc: Global,
+    sending: &mut Sending,
+    peer: &mut Peer,
+    line: &'a str,
+    out: &mut Vec<u8>,
+) -> Result<Progress, PlayFault<'a>> {
+    for _ in 0..u32::MAX {
+        let proved = match peer.payload_with(alloc, SSH_MSG_USERAUTH_REQUEST)? {
+            Came::Nothing(progress) => return Ok(progress),
+            Came::Payload(payload) => answer(alloc, sending, line, &payload, out),
         };
-        match self.payload_with(wanted)? {
-            Came::Nothing(progress) => Ok(progress),
-            Came::Payload(_) => Ok(Progress::Done),
+        if proved? {
+            return Ok(Progress::Done);
         }
     }
+    Ok(Progress::Over("garbled"))
+}
 
-    /// Reads the answer to the valid request.
-    fn read_answer(&mut self) -> Result<Progress, PlayFault<'a>> {
-        for _ in 0..u32::MAX {
-            match self.next_payload()? {
-                Came::Nothing(progress) => return Ok(progress),
-                Came::Payload(payload) => match number_of(&payload) {
-                    SSH_MSG_USERAUTH_SUCCESS => return Ok(Progress::Done),
-                    SSH_MSG_USERAUTH_FAILURE => return Ok(Progress::Over("FAILURE")),
-                    number if crate::pairs::is_passed_over(number) => {}
-                    _ => break,
-                },
-            }
-        }
-        Ok(Progress::Over("garbled"))
+/// Answers a request, unless it proves something; says whether it does.
+fn answer<'a>(
+    alloc: Global,
+    sending: &mut Sending,
+    line: &'a str,
+    payload: &[u8],
+    out: &mut Vec<u8>,
+) -> Result<bool, PlayFault<'a>> {
+    if proves(payload) {
+        return Ok(true);
     }
+    let reply = answer_to(alloc, payload)?;
+    sending.put(alloc, line, &reply, out)?;
+    Ok(false)
+}
 
-    /// Answers requests up to one that proves something.
-    fn read_requests(
-        &mut self,
-        line: &'a str,
-        out: &mut Vec<u8>,
-    ) -> Result<Progress, PlayFault<'a>> {
-        for _ in 0..u32::MAX {
-            match self.payload_with(SSH_MSG_USERAUTH_REQUEST)? {
-                Came::Nothing(progress) => return Ok(progress),
-                Came::Payload(payload) => {
-                    if proves(&payload) {
-                        return Ok(Progress::Done);
-                    }
-                    self.answer(line, &payload, out)?;
-                }
-            }
-        }
-        Ok(Progress::Over("garbled"))
-    }
+/// The answer to a request that proves nothing.
+fn answer_to<'a>(alloc: Global, payload: &[u8]) -> Result<Vec<u8>, PlayFault<'a>> {
+    let mut reply = Vec::new(alloc);
+    put_answer(&mut reply, payload)?;
+    Ok(reply)
+}
 
-    /// Answers a request that proves nothing.
-    fn answer(
-        &mut self,
-        line: &'a str,
-        payload: &[u8],
-        out: &mut Vec<u8>,
-    ) -> Result<(), PlayFault<'a>> {
-        let (method, fields) = method_in(payload);
-        let mut reply = Vec::new(self.alloc);
-        if method == b"publickey".as_slice() {
-            reply.push(SSH_MSG_USERAUTH_PK_OK)?;
-            reply.extend_from_slice(fields.get(1..).unwrap_or(&[]))?;
-        } else {
-            reply.push(SSH_MSG_USERAUTH_FAILURE)?;
-            put_text(&mut reply, METHODS)?;
-            reply.push(0)?;
-        }
-        self.put(line, &reply, out)
+/// Appends it.
+fn put_answer<'a>(reply: &mut Vec<u8>, payload: &[u8]) -> Result<(), PlayFault<'a>> {
+    let (method, fields) = method_in(payload);
+    if method == b"publickey".as_slice() {
+        reply.push(SSH_MSG_USERAUTH_PK_OK)?;
+        reply.extend_from_slice(fields.get(1..).unwrap_or(&[]))?;
+    } else {
+        reply.push(SSH_MSG_USERAUTH_FAILURE)?;
+        put_text(reply, METHODS)?;
+        reply.push(0)?;
     }
-
-    /// Reads up to a message of what comes after authentication.
-    fn read_on(&mut self) -> Result<Progress, PlayFault<'a>> {
-        for _ in 0..u32::MAX {
-            match self.next_payload()? {
-                Came::Nothing(progress) => return Ok(progress),
-                Came::Payload(payload) => {
-                    if number_of(&payload) >= CONNECTION {
-                        return Ok(Progress::Done);
-                    }
-                }
-            }
-        }
-        Ok(Progress::Over("garbled"))
-    }
+    Ok(())
 }
 
 /// The method of a request, and its fields.

@@ -1,8 +1,8 @@
 //! Packets that are sent, bent or not.
 
-use crate::bends::Bends;
+use crate::bends::{Bend, Bends};
 use crate::fault::PlayFault;
-use crate::terms::BYTES_LIMIT;
+use crate::terms::{BYTES_LIMIT, put_text};
 use sshpacket::{Keys, Suite};
 use sshsuite::DeployedSuite;
 use std::alloc::Global;
@@ -18,14 +18,14 @@ const SKIPPED: usize = 32;
 pub(crate) struct Sending {
     keys: Option<Keys>,
     /// The keys from the own NEWKEYS on.
-    pub(crate) next_keys: Option<Keys>,
+    next_keys: Option<Keys>,
     /// The number of the next packet.
     number: u32,
     /// The number of the packet that an act put last.
     pub(crate) last: u32,
     /// Whether numbers go on at the own NEWKEYS.
-    pub(crate) keeps_numbers: bool,
-    pub(crate) bends: Bends,
+    keeps_numbers: bool,
+    bends: Bends,
 }
 
 /// A packet, and what a reader takes of it.
@@ -71,6 +71,44 @@ impl Sending {
         Ok(Made { packet, taken })
     }
 
+    /// The next packet alone.
+    pub(crate) fn packet<'a>(
+        &mut self,
+        alloc: Global,
+        line: &'a str,
+        payload: &[u8],
+    ) -> Result<Vec<u8>, PlayFault<'a>> {
+        let made = self.next(alloc, line, payload)?;
+        Ok(made.packet)
+    }
+
+    /// Appends the next packet.
+    pub(crate) fn put<'a>(
+        &mut self,
+        alloc: Global,
+        line: &'a str,
+        payload: &[u8],
+        out: &mut Vec<u8>,
+    ) -> Result<(), PlayFault<'a>> {
+        let packet = self.packet(alloc, line, payload)?;
+        let put = out.extend_from_slice(&packet);
+        drop(packet);
+        Ok(put?)
+    }
+
+    /// Appends the next packet, of a message of one string.
+    pub(crate) fn put_message<'a>(
+        &mut self,
+        alloc: Global,
+        line: &'a str,
+        number: u8,
+        text: &[u8],
+        out: &mut Vec<u8>,
+    ) -> Result<(), PlayFault<'a>> {
+        let payload = message(alloc, number, text)?;
+        self.put(alloc, line, &payload, out)
+    }
+
     /// The packet in clear of a payload, whatever the keys; its number isn't used.
     pub(crate) fn frame<'a>(
         &mut self,
@@ -99,6 +137,11 @@ impl Sending {
         }
     }
 
+    /// The keys from the own NEWKEYS on.
+    pub(crate) fn set_next(&mut self, keys: Keys) {
+        self.next_keys = Some(keys);
+    }
+
     /// The own NEWKEYS is sent: what follows is sealed by the next keys, where there are some.
     pub(crate) fn switch(&mut self, strict: bool) {
         if let Some(keys) = self.next_keys.take() {
@@ -114,6 +157,16 @@ impl Sending {
         self.last = self.number;
     }
 
+    /// Bends the next packet.
+    pub(crate) fn bend(&mut self, bend: Bend) {
+        self.bends = self.bends.with(bend);
+    }
+
+    /// Numbers go on at the own NEWKEYS.
+    pub(crate) fn keep_numbers(&mut self) {
+        self.keeps_numbers = true;
+    }
+
     /// The next number is 0.
     pub(crate) fn zero(&mut self) {
         self.number = 0;
@@ -127,6 +180,14 @@ impl Sending {
             DeployedSuite.advance(keys, SKIPPED + usize::from(tag));
         }
     }
+}
+
+/// The payload of a message of one string.
+fn message<'a>(alloc: Global, number: u8, text: &[u8]) -> Result<Vec<u8>, PlayFault<'a>> {
+    let mut payload = Vec::new(alloc);
+    payload.push(number)?;
+    put_text(&mut payload, text)?;
+    Ok(payload)
 }
 
 /// The least padding of a payload for a block, where packet_length counts or not (RFC 4253 section 6).

@@ -1,5 +1,8 @@
 //! What a player is given.
 
+use sshneg::Side;
+use std::alloc::Global;
+
 /// What a player is given beside its check. It can't be printed, since it holds a private key.
 #[derive(Clone, Copy)]
 pub struct Setting<'a> {
@@ -43,4 +46,15 @@ impl<'a> Setting<'a> {
         let random = self.random;
         random.get(96..112).unwrap_or(&[])
     }
+}
+
+/// What a play doesn't change.
+#[derive(Clone, Copy)]
+pub(crate) struct Given<'a> {
+    pub(crate) alloc: Global,
+    /// The player's side.
+    pub(crate) side: Side,
+    /// What has to be so for the check to mean something.
+    pub(crate) needs: &'a str,
+    pub(crate) setting: Setting<'a>,
 }

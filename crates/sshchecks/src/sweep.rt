@@ -2,10 +2,10 @@
 
 ghost use Rattle.std.specs.Prelude.{◌≡◌, ◌==◌, false};
 ghost use Rattle.sshcore.specs.Phases.{leaving};
-ghost use Rattle.sshcore.specs.Table.{is_ignored, is_of_auth, is_ruled, is_unknown, line_by, takes_extensions};
+ghost use Rattle.sshcore.specs.Table.{disposition_by, is_ignored, is_of_auth, is_ruled, is_unknown, takes_extensions};
 ghost use Rattle.sshchecks.specs.Expected.{expected, may_wait, phase_at, strict_at, words_of};
 
-use sshcore::{Line, Phase};
+use sshcore::{Disposition, Phase};
 use sshmsg::{
     SSH_MSG_DISCONNECT, SSH_MSG_EXT_INFO, SSH_MSG_KEXDH_INIT, SSH_MSG_KEXDH_REPLY, SSH_MSG_KEXINIT,
     SSH_MSG_NEWKEYS, SSH_MSG_SERVICE_ACCEPT, SSH_MSG_SERVICE_REQUEST, SSH_MSG_USERAUTH_BANNER,
@@ -40,7 +40,7 @@ pub fn expected_at(peer: Side, place: Place, number: u8) -> &'static str
     if number == leaving(peer, phase) || may_wait(peer, place, number) {
         return ANYTHING;
     }
-    words_of(line_at(peer, phase, strict_at(place), number))
+    words_of(disposition_at(peer, phase, strict_at(place), number))
 }
 
 /// What an endpoint waits for at a place.
@@ -76,33 +76,33 @@ fn may_wait(role: Side, place: Place, number: u8) -> bool
 }
 
 /// What is expected by a line of the table.
-fn words_of(line: Line) -> &'static str
-    ensures { result.now ≡ words_of line }
+fn words_of(disposition: Disposition) -> &'static str
+    ensures { result.now ≡ words_of disposition }
 {
-    match line {
-        Line::Unknown => "unimplemented",
+    match disposition {
+        Disposition::Unknown => "unimplemented",
         _ => "ends",
     }
 }
 
 /// The line of the phase table that decides on a message with this number, where no guess is due and no query waits.
-#[tactic(auto, unfolding(sshcore::specs::Table::line_by))]
-fn line_at(role: Side, phase: Phase, strict: bool, number: u8) -> Line
-    ensures { result ≡ line_by role phase strict false false number }
+#[tactic(auto, unfolding(sshcore::specs::Table::disposition_by))]
+fn disposition_at(role: Side, phase: Phase, strict: bool, number: u8) -> Disposition
+    ensures { result ≡ disposition_by role phase strict false false number }
 {
     let leaves = number == leaving(role, phase);
     if number == SSH_MSG_DISCONNECT {
-        Line::Reads
+        Disposition::Reads
     } else if is_ruled(phase, strict) && !leaves {
-        Line::Deviates
+        Disposition::Deviates
     } else if leaves || is_of_auth(role, phase, number) || is_ignored(number) {
-        Line::Reads
+        Disposition::Reads
     } else if number == SSH_MSG_EXT_INFO && takes_extensions(phase) {
-        Line::Reads
+        Disposition::Reads
     } else if is_unknown(number) {
-        Line::Unknown
+        Disposition::Unknown
     } else {
-        Line::Unexpected
+        Disposition::Unexpected
     }
 }
 

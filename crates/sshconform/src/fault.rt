@@ -1,6 +1,6 @@
 //! Why the program doesn't begin, or doesn't go on.
 
-use sshidentity::IdentityFault;
+use sshidentity::FileFault;
 use sshwire::Memory;
 use std::alloc::{AllocError, AllocFailed};
 use std::fmt;
@@ -16,12 +16,8 @@ pub(crate) enum Fault {
     Write,
     /// No random bytes are to be had.
     Random,
-    /// The file that this option names can't be read.
-    File(&'static str),
-    /// The file that this option names isn't what it has to be.
-    Form(&'static str),
-    /// The file that this option names has no private key that can be used.
-    Key(&'static str, KeyFault),
+    /// A file that an option names can't be used.
+    File(FileFault),
     /// A word isn't UTF-8.
     NotText,
 }
@@ -31,8 +27,9 @@ impl Fault {
     pub(crate) fn status(&self) -> u8 {
         match self {
             Fault::Memory => 3,
-            Fault::Read | Fault::Write | Fault::Random | Fault::File(_) => 4,
-            Fault::Form(_) | Fault::Key(..) | Fault::NotText => 2,
+            Fault::Read | Fault::Write | Fault::Random => 4,
+            Fault::File(FileFault::Unreadable(_)) => 4,
+            Fault::File(_) | Fault::NotText => 2,
         }
     }
 }
@@ -45,12 +42,7 @@ impl fmt::Display for Fault {
             Fault::Write => f.write_str("write failed"),
             Fault::Random => f.write_str("no random bytes"),
             Fault::NotText => f.write_str("a word isn't UTF-8"),
-            Fault::File(option) => write!(f, "the file of --{option} can't be read"),
-            Fault::Form(option) => write!(
-                f,
-                "the file of --{option} hasn't the form that it needs"
-            ),
-            Fault::Key(option, fault) => write!(f, "the file of --{option} {}", fault.words()),
+            Fault::File(fault) => write!(f, "{fault}"),
         }
     }
 }
@@ -73,21 +65,11 @@ impl<T: Drop> From<AllocFailed<T>> for Fault {
     }
 }
 
-/// Why a file has no private key that can be used.
-#[derive(Clone, Copy)]
-pub(crate) enum KeyFault {
-    /// There is none in its text.
-    Identity(IdentityFault),
-    /// Others may read it, or write to it.
-    Readable,
-}
-
-impl KeyFault {
-    /// What is told of the file.
-    fn words(&self) -> &'static str {
-        match self {
-            KeyFault::Identity(fault) => fault.words(),
-            KeyFault::Readable => "may be read or written by others than its owner",
+impl From<FileFault> for Fault {
+    fn from(fault: FileFault) -> Fault {
+        match fault {
+            FileFault::Memory => Fault::Memory,
+            _ => Fault::File(fault),
         }
     }
 }

@@ -3,11 +3,11 @@
 use crate::blocks::{Block, first_block};
 use crate::escapes::{put_array, put_member, put_shown};
 use crate::fault::Fault;
-use crate::files::{bytes_of, text_in};
 use crate::judged::group_of;
 use crate::settings::Listed;
 use crate::stop::{Stop, stopped};
 use sshchecks::{Check, read_check};
+use sshidentity::{bytes_of, text_in};
 use std::alloc::AllocError;
 use std::io::Write;
 

@@ -5,7 +5,6 @@
 mod blocks;
 mod escapes;
 mod fault;
-mod files;
 mod judged;
 mod listing;
 mod own_key;

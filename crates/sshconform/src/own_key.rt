@@ -1,10 +1,9 @@
 //! What this side proves itself by, and its random bytes.
 
-use crate::fault::{Fault, KeyFault};
-use crate::files::{bytes_of, first_line, is_private, text_in};
+use crate::fault::Fault;
 use crate::settings::Settings;
 use sshchecks::Setting;
-use sshidentity::identity_in;
+use sshidentity::{FileFault, bytes_of, first_line, private_key, text_in};
 use std::random::RandomSource;
 
 /// How many random bytes a player takes.
@@ -59,11 +58,8 @@ pub(crate) fn read_own(rt: &HostRuntime, settings: &Settings<'_>) -> Result<Own,
 fn key_in(rt: &HostRuntime, option: &'static str, path: &str) -> Result<Vec<u8>, Fault> {
     let file = bytes_of(rt, option, path)?;
     let text = text_in(option, &file)?;
-    match identity_in(rt.alloc(), text)? {
-        Ok(key) if is_private(rt, option, path)? => Ok(key),
-        Ok(_) => Err(Fault::Key(option, KeyFault::Readable)),
-        Err(fault) => Err(Fault::Key(option, KeyFault::Identity(fault))),
-    }
+    let found = private_key(rt, option, path, text)?;
+    found.map_err(|fault| Fault::File(FileFault::Key(option, fault)))
 }
 
 /// Random bytes, from the system's random source.

@@ -3,7 +3,6 @@
 use crate::REFUSED;
 use crate::blocks::{Block, block_named};
 use crate::fault::Fault;
-use crate::files::{bytes_of, text_in};
 use crate::judged::judged_check;
 use crate::own_key::{Own, read_own};
 use crate::report::{Outcome, json_of, text_of};
@@ -11,6 +10,7 @@ use crate::settings::Settings;
 use crate::stop::{Stop, stopped};
 use crate::stream::{CHUNK, receive, send};
 use sshchecks::{Check, Player, Setting, Turn, Verdict, verdict_of};
+use sshidentity::{bytes_of, text_in};
 use std::io::Write;
 
 /// Plays the check of a name, tells what the peer did, and answers the exit status.

@@ -12,7 +12,7 @@ use Rattle.sshmsg.proofs.NumberLemmas.{reads_alike}
 use Rattle.sshmsg.specs.declared.fault.MsgFault.{MsgFault}
 use Rattle.sshmsg.specs.MessageData.{KexEcdhInit, KexEcdhReply, KexInitData, KexdhInit, KexdhReply, MessageData, MethodData, PublicKeyQuery, ServiceAccept, UserauthFailure, UserauthPkOk, UserauthRequest}
 use Rattle.sshmsg.specs.Messages.{message_in}
-use Rattle.sshmsg.specs.Numbers.{kind, number_of}
+use Rattle.sshmsg.specs.Numbers.{message_number, number_of}
 use Rattle.sshneg.specs.declared.side.Side.{Side}
 use Rattle.sshneg.specs.declared.side.Side.TheVariants.{Client, Server}
 use Rattle.sshneg.specs.ChoiceReadings.{is_in}
@@ -21,25 +21,25 @@ use Rattle.sshpacket.specs.Places.{EachPlace, flat_places}
 use Rattle.sshpacket.specs.Stream.{Units}
 use Rattle.sshpacket.specs.Suite.{SuiteData}
 use Rattle.sshpacket.proofs.Places.{flat-push, flat-same}
-use Rattle.sshcore.specs.declared.table.Line.{Line}
-use Rattle.sshcore.specs.declared.table.Line.TheVariants as line
-use Rattle.sshcore.specs.declared.table.Phase.TheVariants as phase
+use Rattle.sshcore.specs.declared.phase_table.Disposition.{Disposition}
+use Rattle.sshcore.specs.declared.phase_table.Disposition.TheVariants as disposition
+use Rattle.sshcore.specs.declared.phase_table.Phase.TheVariants as phase
 use Rattle.sshcore.specs.AskedQuestions.{ComesLater, IsAskedOnce, asked, question_after, questions_at}
 use Rattle.sshcore.specs.Attempts.{answers_query, is_asked}
 use Rattle.sshcore.specs.Before.{count_kept, expects_guess, kept, stood, strict_at}
 use Rattle.sshcore.specs.ConfigParts.{AttemptData, ByKey, ByNothing, ByPassword, CredentialData}
 use Rattle.sshcore.specs.EndpointParts.{ConfigData, DecisionsData, KeyProof, ProofData, Setup, setup_with}
 use Rattle.sshcore.specs.Exchange.{answer_with, exchange_with, host_key_by}
-use Rattle.sshcore.specs.Known.{Known, known_at, left_at, waits_at}
+use Rattle.sshcore.specs.KnownBefore.{Known, known_at, left_at, waits_at}
 use Rattle.sshcore.specs.Phases.{leaving, phase_at, phase_by}
 use Rattle.sshcore.specs.Plan.{asks, confirmed, is_waiting, left_after_one, listed_by, listed_in, next_after, next_listed, unasked}
-use Rattle.sshcore.specs.Questions.{HostKeyQuestion, QuestionData, SignatureQuestion, UserQuestion, accept_question, attempt_question, confirmed_question, init_question, line_question, message_question, method_question, claim_question, query_question, question_at, request_question}
-use Rattle.sshcore.specs.Reached.{ReachedData}
-use Rattle.sshcore.specs.Replies.{line_at}
+use Rattle.sshcore.specs.Questions.{HostKeyQuestion, QuestionData, SignatureQuestion, UserQuestion, accept_question, attempt_question, claim_question, confirmed_question, disposition_question, init_question, message_question, method_question, query_question, question_at, request_question}
+use Rattle.sshcore.specs.CompletedMethods.{CompletedMethodsData}
+use Rattle.sshcore.specs.Replies.{disposition_at}
 use Rattle.sshcore.specs.Requests.{is_last_try}
 use Rattle.sshcore.specs.Standing.{Sits}
 use Rattle.sshcore.specs.StateData.{StateData}
-use Rattle.sshcore.specs.Table.{line_by}
+use Rattle.sshcore.specs.Table.{disposition_by}
 use Rattle.sshcore.specs.Tries.{claimed_proof, is_supported}
 use Rattle.sshcore.specs.Work.{userauth}
 use Rattle.sshcore.proofs.AnsweredLemmas.{Rises, asked_once}
@@ -50,7 +50,7 @@ use Rattle.sshcore.proofs.SignatureLemmas.{IsOfAttempt, IsOfExchange, attempt_as
 
 -- a payload begins with the number of its message
 abbrev pub Numbered : Type 0
-Numbered = (form : ShareForm) (payload : List ℕ) (c : MessageData) → message_in form payload ≡ Ok c → kind payload ≡ number_of c
+Numbered = (form : ShareForm) (payload : List ℕ) (c : MessageData) → message_in form payload ≡ Ok c → message_number payload ≡ number_of c
 
 -- the question is on a request, and has this number
 abbrev IsNumbered : ℕ → QuestionData → Type 0
@@ -61,12 +61,12 @@ IsNumbered n (SignatureQuestion number algorithm blob input) = ⊥
 -- It is asked by a message of its number: a host key by 31, the next request by 50, the signature of an exchange by 30, and that of an
 -- attempt by 6, 51 or 60, which make it.
 data IsAsked (known : Known) (payload : List ℕ) (q : QuestionData) : Type 0 where
-  ByReply : kind payload ≡ 31 → (algorithm blob : List ℕ) → q ≡ HostKeyQuestion algorithm blob → IsAsked known payload q
-  ByRequest : kind payload ≡ 50 → IsNumbered known.request q → IsAsked known payload q
-  ByInit : kind payload ≡ 30 → IsOfExchange q → IsAsked known payload q
-  ByAccept : kind payload ≡ 6 → IsOfAttempt known.left q → IsAsked known payload q
-  ByFailure : kind payload ≡ 51 → IsOfAttempt (next_after (listed_in payload) known.left) q → IsAsked known payload q
-  ByConfirmation : kind payload ≡ 60 → is_waiting known.left ≡ true → IsOfAttempt (confirmed known.left) q → IsAsked known payload q
+  ByReply : message_number payload ≡ 31 → (algorithm blob : List ℕ) → q ≡ HostKeyQuestion algorithm blob → IsAsked known payload q
+  ByRequest : message_number payload ≡ 50 → IsNumbered known.request q → IsAsked known payload q
+  ByInit : message_number payload ≡ 30 → IsOfExchange q → IsAsked known payload q
+  ByAccept : message_number payload ≡ 6 → IsOfAttempt known.left q → IsAsked known payload q
+  ByFailure : message_number payload ≡ 51 → IsOfAttempt (next_after (listed_in payload) known.left) q → IsAsked known payload q
+  ByConfirmation : message_number payload ≡ 60 → is_waiting known.left ≡ true → IsOfAttempt (confirmed known.left) q → IsAsked known payload q
 
 -- a request
 numbered : (number : ℕ) (user service : List ℕ) (proof : ProofData) (q : QuestionData) → Some (UserQuestion number user service proof) ≡ Some q → IsNumbered number q
@@ -76,36 +76,36 @@ claim_asks : (number : ℕ) (user service : List ℕ) (proof : Option ProofData)
 claim_asks number user service None q e = absurd cc
 claim_asks number user service (Some proof) q e = numbered number user service proof q e
 
-module _ (m : SuiteData) (role : Side) (party : ConfigData) where
-  query_asks : (known : Known) (user service algorithm key : List ℕ) (q : QuestionData) → query_question m party known user service algorithm key ≡ Some q → IsNumbered known.request q
-  query_asks known user service algorithm key q e = by_last (is_last_try party known) e
+module _ (m : SuiteData) (role : Side) (config : ConfigData) where
+  query_asks : (known : Known) (user service algorithm key : List ℕ) (q : QuestionData) → query_question m config known user service algorithm key ≡ Some q → IsNumbered known.request q
+  query_asks known user service algorithm key q e = by_last (is_last_try config known) e
     where
       by_key : (b : Bool) → cond b (Some (UserQuestion known.request user service (KeyProof algorithm key))) None ≡ Some q → IsNumbered known.request q
       by_key true is = numbered known.request user service (KeyProof algorithm key) q is
       by_key false is = absurd cc
 
-      by_last : (b : Bool) → cond b None (cond (is_in party.methods (codes "publickey") && (is_supported m algorithm && nat_le (length key) BLOB_LIMIT))
+      by_last : (b : Bool) → cond b None (cond (is_in config.methods (codes "publickey") && (is_supported m algorithm && nat_le (length key) BLOB_LIMIT))
           (Some (UserQuestion known.request user service (KeyProof algorithm key))) None) ≡ Some q → IsNumbered known.request q
       by_last true is = absurd cc
-      by_last false is = by_key (is_in party.methods (codes "publickey") && (is_supported m algorithm && nat_le (length key) BLOB_LIMIT)) is
+      by_last false is = by_key (is_in config.methods (codes "publickey") && (is_supported m algorithm && nat_le (length key) BLOB_LIMIT)) is
 
-  method_asks : (known : Known) (user service : List ℕ) (method : MethodData) (q : QuestionData) → method_question m party known user service method ≡ Some q → IsNumbered known.request q
+  method_asks : (known : Known) (user service : List ℕ) (method : MethodData) (q : QuestionData) → method_question m config known user service method ≡ Some q → IsNumbered known.request q
   method_asks known user service (PublicKeyQuery algorithm key) q e = query_asks known user service algorithm key q e
-  method_asks known user service method q e = claim_asks known.request user service (claimed_proof m party method) q e
+  method_asks known user service method q e = claim_asks known.request user service (claimed_proof m config method) q e
 
-  request_asks : (known : Known) (user service : List ℕ) (method : MethodData) (q : QuestionData) → request_question m party known user service method ≡ Some q → IsNumbered known.request q
+  request_asks : (known : Known) (user service : List ℕ) (method : MethodData) (q : QuestionData) → request_question m config known user service method ≡ Some q → IsNumbered known.request q
   unfolding request_question
-  request_asks known user service method q e = by (is_in party.services service) e
+  request_asks known user service method q e = by (is_in config.services service) e
     where
-      by : (b : Bool) → cond b (method_question m party known user service method) None ≡ Some q → IsNumbered known.request q
+      by : (b : Bool) → cond b (method_question m config known user service method) None ≡ Some q → IsNumbered known.request q
       by true is = method_asks known user service method q is
       by false is = absurd cc
 
   -- a share
-  share_asks : (known : Known) (c : MessageData) (q : QuestionData) → init_question m role party known c ≡ Some q → IsOfExchange q
+  share_asks : (known : Known) (c : MessageData) (q : QuestionData) → init_question m role config known c ≡ Some q → IsOfExchange q
   unfolding init_question
   share_asks known c q e =
-      exchange_asks m party known (exchange_with m role party known.algorithms known.version known.kexinit (Ok c)) (answer_with m role party known.algorithms (Ok c)) q e
+      exchange_asks m config known (exchange_with m role config known.algorithms known.version known.kexinit (Ok c)) (answer_with m role config known.algorithms (Ok c)) q e
 
   -- where the service is accepted, and where the query was about the key
   accepted_asks : (known : Known) (service : List ℕ) (q : QuestionData) → accept_question m known service ≡ Some q → IsOfAttempt known.left q
@@ -135,21 +135,21 @@ module _ (m : SuiteData) (role : Side) (party : ConfigData) where
 
   module _ (numbers : Numbered) (known : Known) (payload : List ℕ) where
     -- the methods that a FAILURE lists are those that it is read with
-    lists : (listed : List (List ℕ)) (partial : Bool) → message_in known.shares payload ≡ Ok (UserauthFailure listed partial) → kind payload ≡ 51 → listed_in payload ≡ listed
+    lists : (listed : List (List ℕ)) (partial : Bool) → message_in known.shares payload ≡ Ok (UserauthFailure listed partial) → message_number payload ≡ 51 → listed_in payload ≡ listed
     unfolding listed_in
     lists listed partial e is = ap listed_by (reads_alike Mpint known.shares payload (λ q. omega (arith, q, is)) (λ q. omega (arith, q, is)) ∙ e)
 
     failure_asks : (listed : List (List ℕ)) (partial : Bool) (q : QuestionData) → message_in known.shares payload ≡ Ok (UserauthFailure listed partial)
         → attempt_question m known.session (next_after listed known.left) ≡ Some q → IsAsked known payload q
     failure_asks listed partial q e is =
-        let number : kind payload ≡ 51 = numbers known.shares payload (UserauthFailure listed partial) e in
+        let number : message_number payload ≡ 51 = numbers known.shares payload (UserauthFailure listed partial) e in
         ByFailure number (subst (λ (l : List (List ℕ)). IsOfAttempt (next_after l known.left) q) (sym (lists listed partial e number)) (attempt_asks m known.session (next_after listed known.left) q is))
 
-    message_asks : (r : Result MessageData MsgFault) (q : QuestionData) → message_in known.shares payload ≡ r → message_question m role party known r ≡ Some q → IsAsked known payload q
+    message_asks : (r : Result MessageData MsgFault) (q : QuestionData) → message_in known.shares payload ≡ r → message_question m role config known r ≡ Some q → IsAsked known payload q
     message_asks (Ok (KexdhReply key f signature)) q e is =
-        ByReply (numbers known.shares payload (KexdhReply key f signature) e) known.algorithms.host_key (host_key_by m role party known.algorithms.host_key (Ok (KexdhReply key f signature))) cc
+        ByReply (numbers known.shares payload (KexdhReply key f signature) e) known.algorithms.host_key (host_key_by m role config known.algorithms.host_key (Ok (KexdhReply key f signature))) cc
     message_asks (Ok (KexEcdhReply key share signature)) q e is =
-        ByReply (numbers known.shares payload (KexEcdhReply key share signature) e) known.algorithms.host_key (host_key_by m role party known.algorithms.host_key (Ok (KexEcdhReply key share signature))) cc
+        ByReply (numbers known.shares payload (KexEcdhReply key share signature) e) known.algorithms.host_key (host_key_by m role config known.algorithms.host_key (Ok (KexEcdhReply key share signature))) cc
     message_asks (Ok (KexdhInit share)) q e is = ByInit (numbers known.shares payload (KexdhInit share) e) (share_asks known (KexdhInit share) q is)
     message_asks (Ok (KexEcdhInit share)) q e is = ByInit (numbers known.shares payload (KexEcdhInit share) e) (share_asks known (KexEcdhInit share) q is)
     message_asks (Ok (ServiceAccept service)) q e is = ByAccept (numbers known.shares payload (ServiceAccept service) e) (accepted_asks known service q is)
@@ -162,10 +162,10 @@ module _ (m : SuiteData) (role : Side) (party : ConfigData) where
     message_asks _ q e is = absurd cc
 
     -- only what is read asks
-    line_asks : (l : Line) (q : QuestionData) → line_question m role party known l payload ≡ Some q → (l ≡ line.Reads) × IsAsked known payload q
-    unfolding line_question
-    line_asks line.Reads q e = (refl, message_asks (message_in known.shares payload) q refl e)
-    line_asks _ q e = absurd cc
+    disposition_asks : (l : Disposition) (q : QuestionData) → disposition_question m role config known l payload ≡ Some q → (l ≡ disposition.Reads) × IsAsked known payload q
+    unfolding disposition_question
+    disposition_asks disposition.Reads q e = (refl, message_asks (message_in known.shares payload) q refl e)
+    disposition_asks _ q e = absurd cc
 
 exchange_due : (a b c d : Bool) → phase_by a b c d ≡ phase.Exchange → b ≡ false
 exchange_due a false c d e = refl
@@ -253,7 +253,7 @@ module _ (left : List AttemptData) where
   still_confirmed true false on = absurd (true≢false (sym (on refl)))
 
   still_falls : (payload : List ℕ) (made now : Bool) → (made ≡ true → now ≡ true) → still_asked now (left_after_one left payload) ≤ still_asked made left
-  still_falls payload made now on = by (kind payload == 60)
+  still_falls payload made now on = by (message_number payload == 60)
     where
       by : (b : Bool) → still_asked now (cond b (confirmed left) (next_after (listed_in payload) left)) ≤ still_asked made left
       by true = still_confirmed made now on
@@ -265,14 +265,14 @@ module _ (left : List AttemptData) where
 
 -- After these payloads a signature may be asked for: at a server before the exchange, at a client of attempts that may still ask.
 abbrev MaySign : Side → ConfigData → Units → ℕ → Type 0
-MaySign Server party before number = stood Server party.offer (leaving Server phase.Exchange) before ≡ false
-MaySign Client party before number = number < still_asked (stood Client party.offer (leaving Client phase.Service) before) (left_at Client party before)
+MaySign Server config before number = stood Server config.offer (leaving Server phase.Exchange) before ≡ false
+MaySign Client config before number = number < still_asked (stood Client config.offer (leaving Client phase.Service) before) (left_at Client config before)
 
 -- after these payloads it may be asked: a host key before the exchange, and a request that has a greater number than those that stood
 abbrev MayAsk : Side → ConfigData → Units → QuestionData → Type 0
-MayAsk role party before (HostKeyQuestion algorithm blob) = stood role party.offer (leaving role phase.Exchange) before ≡ false
-MayAsk role party before (UserQuestion number user service proof) = count_kept role party.offer 50 before < number
-MayAsk role party before (SignatureQuestion number algorithm blob input) = MaySign role party before number
+MayAsk role config before (HostKeyQuestion algorithm blob) = stood role config.offer (leaving role phase.Exchange) before ≡ false
+MayAsk role config before (UserQuestion number user service proof) = count_kept role config.offer 50 before < number
+MayAsk role config before (SignatureQuestion number algorithm blob input) = MaySign role config before number
 
 module _ (role : Side) (own : KexInitData) (before : Units) (payload : List ℕ) where
   off_before : stood role own (leaving role phase.Exchange) (before ++ payload ∷ []) ≡ false → stood role own (leaving role phase.Exchange) before ≡ false
@@ -299,50 +299,50 @@ module _ (role : Side) (own : KexInitData) (before : Units) (payload : List ℕ)
       by true e = let same : count_kept role own 50 (before ++ payload ∷ []) ≡ count_kept role own 50 before + 1 = count_push role own before payload 50 ∙ rw e refl in omega (arith, same)
       by false e = let same : count_kept role own 50 (before ++ payload ∷ []) ≡ count_kept role own 50 before = count_push role own before payload 50 ∙ rw e refl in omega (arith, same)
 
-module _ (party : ConfigData) (before : Units) (payload : List ℕ) where
-  signs_before : (role : Side) (number : ℕ) → MaySign role party (before ++ payload ∷ []) number → MaySign role party before number
-  signs_before Server number may = off_before Server party.offer before payload may
-  signs_before Client number may = by (is_answered Client party.offer before payload) refl
+module _ (config : ConfigData) (before : Units) (payload : List ℕ) where
+  signs_before : (role : Side) (number : ℕ) → MaySign role config (before ++ payload ∷ []) number → MaySign role config before number
+  signs_before Server number may = off_before Server config.offer before payload may
+  signs_before Client number may = by (is_answered Client config.offer before payload) refl
     where
-      on : stood Client party.offer 6 before ≡ true → stood Client party.offer 6 (before ++ payload ∷ []) ≡ true
-      on = stood_still Client party.offer before payload 6
+      on : stood Client config.offer 6 before ≡ true → stood Client config.offer 6 (before ++ payload ∷ []) ≡ true
+      on = stood_still Client config.offer before payload 6
 
-      by : (b : Bool) → is_answered Client party.offer before payload ≡ b
-          → number < still_asked (stood Client party.offer 6 before) (left_at Client party before)
+      by : (b : Bool) → is_answered Client config.offer before payload ≡ b
+          → number < still_asked (stood Client config.offer 6 before) (left_at Client config before)
       by true e =
-          let is : left_at Client party (before ++ payload ∷ []) ≡ left_after_one (left_at Client party before) payload = left_answered Client party before payload e in
-          let less : number < still_asked (stood Client party.offer 6 (before ++ payload ∷ [])) (left_after_one (left_at Client party before) payload) =
-          subst (λ (l : List AttemptData). number < still_asked (stood Client party.offer 6 (before ++ payload ∷ [])) l) is may in
-          let falls = still_falls (left_at Client party before) payload (stood Client party.offer 6 before) (stood Client party.offer 6 (before ++ payload ∷ [])) on in
+          let is : left_at Client config (before ++ payload ∷ []) ≡ left_after_one (left_at Client config before) payload = left_answered Client config before payload e in
+          let less : number < still_asked (stood Client config.offer 6 (before ++ payload ∷ [])) (left_after_one (left_at Client config before) payload) =
+          subst (λ (l : List AttemptData). number < still_asked (stood Client config.offer 6 (before ++ payload ∷ [])) l) is may in
+          let falls = still_falls (left_at Client config before) payload (stood Client config.offer 6 before) (stood Client config.offer 6 (before ++ payload ∷ [])) on in
           omega (arith, less, falls)
       by false e =
-          let is : left_at Client party (before ++ payload ∷ []) ≡ left_at Client party before = left_stays Client party before payload e in
-          let less : number < still_asked (stood Client party.offer 6 (before ++ payload ∷ [])) (left_at Client party before) =
-          subst (λ (l : List AttemptData). number < still_asked (stood Client party.offer 6 (before ++ payload ∷ [])) l) is may in
-          let same = still_same (left_at Client party before) (stood Client party.offer 6 before) (stood Client party.offer 6 (before ++ payload ∷ [])) on in
+          let is : left_at Client config (before ++ payload ∷ []) ≡ left_at Client config before = left_stays Client config before payload e in
+          let less : number < still_asked (stood Client config.offer 6 (before ++ payload ∷ [])) (left_at Client config before) =
+          subst (λ (l : List AttemptData). number < still_asked (stood Client config.offer 6 (before ++ payload ∷ [])) l) is may in
+          let same = still_same (left_at Client config before) (stood Client config.offer 6 before) (stood Client config.offer 6 (before ++ payload ∷ [])) on in
           omega (arith, less, same)
 
   -- what may be asked after one more might before it
-  may_before : (role : Side) (q : QuestionData) → MayAsk role party (before ++ payload ∷ []) q → MayAsk role party before q
-  may_before role (HostKeyQuestion algorithm blob) may = off_before role party.offer before payload may
-  may_before role (UserQuestion number user service proof) may = omega (arith, count_less role party.offer before payload, may)
+  may_before : (role : Side) (q : QuestionData) → MayAsk role config (before ++ payload ∷ []) q → MayAsk role config before q
+  may_before role (HostKeyQuestion algorithm blob) may = off_before role config.offer before payload may
+  may_before role (UserQuestion number user service proof) may = omega (arith, count_less role config.offer before payload, may)
   may_before role (SignatureQuestion number algorithm blob input) may = signs_before role number may
 
 -- a signature at a server, and at a client
-module _ (party : ConfigData) (before : Units) (number : ℕ) where
-  server_signs : (role : Side) → role ≡ Server → stood role party.offer (leaving role phase.Exchange) before ≡ false → MaySign role party before number
+module _ (config : ConfigData) (before : Units) (number : ℕ) where
+  server_signs : (role : Side) → role ≡ Server → stood role config.offer (leaving role phase.Exchange) before ≡ false → MaySign role config before number
   server_signs Server is off = off
   server_signs Client is off = absurd cc
 
-  server_signed : (role : Side) → role ≡ Server → MaySign role party before number → stood role party.offer (leaving role phase.Exchange) before ≡ false
+  server_signed : (role : Side) → role ≡ Server → MaySign role config before number → stood role config.offer (leaving role phase.Exchange) before ≡ false
   server_signed Server is may = may
   server_signed Client is may = absurd cc
 
-  client_signs : (role : Side) → role ≡ Client → number < still_asked (stood role party.offer (leaving role phase.Service) before) (left_at role party before) → MaySign role party before number
+  client_signs : (role : Side) → role ≡ Client → number < still_asked (stood role config.offer (leaving role phase.Service) before) (left_at role config before) → MaySign role config before number
   client_signs Client is less = less
   client_signs Server is less = absurd cc
 
-  client_signed : (role : Side) → role ≡ Client → MaySign role party before number → number < still_asked (stood role party.offer (leaving role phase.Service) before) (left_at role party before)
+  client_signed : (role : Side) → role ≡ Client → MaySign role config before number → number < still_asked (stood role config.offer (leaving role phase.Service) before) (left_at role config before)
   client_signed Client is may = may
   client_signed Server is may = absurd cc
 
@@ -352,19 +352,19 @@ module _ (numbers : Numbered) (setup : Setup) (version : List ℕ) where
     abbrev Asks : QuestionData → Type 0
     Asks q = MayAsk setup.role setup.config before q × ((r : QuestionData) → MayAsk setup.role setup.config (before ++ payload ∷ []) r → ComesLater q r)
 
-    place_reads : line_at setup.role setup.config before payload ≡ line.Reads → Reads setup.role (phase_at setup.role setup.config.offer before) (expects_guess setup.role setup.config.offer before) (kind payload)
+    place_reads : disposition_at setup.role setup.config before payload ≡ disposition.Reads → Reads setup.role (phase_at setup.role setup.config.offer before) (expects_guess setup.role setup.config.offer before) (message_number payload)
     place_reads e =
-        reads setup.role (phase_at setup.role setup.config.offer before) (strict_at setup.role setup.config before) (waits_at setup.role setup.config before) (kind payload)
+        reads setup.role (phase_at setup.role setup.config.offer before) (strict_at setup.role setup.config before) (waits_at setup.role setup.config before) (message_number payload)
         (expects_guess setup.role setup.config.offer before) e
 
     -- the exchange message, after which none of its kind asks
     exchange_off : phase_at setup.role setup.config.offer before ≡ phase.Exchange → stood setup.role setup.config.offer (leaving setup.role phase.Exchange) before ≡ false
     exchange_off at = exchange_due _ _ _ _ at
 
-    stands_now : (k : ℕ) → expects_guess setup.role setup.config.offer before ≡ false → kind payload ≡ k → stood setup.role setup.config.offer k (before ++ payload ∷ []) ≡ true
-    stands_now k none is = stood_now setup.role setup.config.offer before payload k (kept_free setup.role setup.config.offer before payload k none ∙ eq-eqb (kind payload) k is)
+    stands_now : (k : ℕ) → expects_guess setup.role setup.config.offer before ≡ false → message_number payload ≡ k → stood setup.role setup.config.offer k (before ++ payload ∷ []) ≡ true
+    stands_now k none is = stood_now setup.role setup.config.offer before payload k (kept_free setup.role setup.config.offer before payload k none ∙ eq-eqb (message_number payload) k is)
 
-    host_asks : (algorithm blob : List ℕ) → IsAt setup.role Client (phase_at setup.role setup.config.offer before) phase.Exchange (expects_guess setup.role setup.config.offer before) → kind payload ≡ 31
+    host_asks : (algorithm blob : List ℕ) → IsAt setup.role Client (phase_at setup.role setup.config.offer before) phase.Exchange (expects_guess setup.role setup.config.offer before) → message_number payload ≡ 31
         → Asks (HostKeyQuestion algorithm blob)
     host_asks algorithm blob a is = (exchange_off a.phase_is, later)
       where
@@ -376,7 +376,7 @@ module _ (numbers : Numbered) (setup : Setup) (version : List ℕ) where
         later (UserQuestion number user service proof) may = tt
         later (SignatureQuestion number other_algorithm other_blob input) may = tt
 
-    init_asks : (q : QuestionData) → IsOfExchange q → IsAt setup.role Server (phase_at setup.role setup.config.offer before) phase.Exchange (expects_guess setup.role setup.config.offer before) → kind payload ≡ 30
+    init_asks : (q : QuestionData) → IsOfExchange q → IsAt setup.role Server (phase_at setup.role setup.config.offer before) phase.Exchange (expects_guess setup.role setup.config.offer before) → message_number payload ≡ 30
         → Asks q
     init_asks q x a is = subst Asks (sym x.is) (server_signs setup.config before 0 setup.role a.side_is (exchange_off a.phase_is), later)
       where
@@ -407,7 +407,7 @@ module _ (numbers : Numbered) (setup : Setup) (version : List ℕ) where
             omega (arith, lower, bound, counts)
 
     accept_asks : (q : QuestionData) → IsOfAttempt (left_at setup.role setup.config before) q
-        → IsAt setup.role Client (phase_at setup.role setup.config.offer before) phase.Service (expects_guess setup.role setup.config.offer before) → kind payload ≡ 6 → Asks q
+        → IsAt setup.role Client (phase_at setup.role setup.config.offer before) phase.Service (expects_guess setup.role setup.config.offer before) → message_number payload ≡ 6 → Asks q
     accept_asks q p a is =
         let off : stood setup.role setup.config.offer (leaving setup.role phase.Service) before ≡ false = service_due _ _ _ _ a.phase_is in
         let none : is_answered setup.role setup.config.offer before payload ≡ false =
@@ -418,7 +418,7 @@ module _ (numbers : Numbered) (setup : Setup) (version : List ℕ) where
         (stands_now (leaving setup.role phase.Service) a.none_due (is ∙ sym (leaving_accept setup.role a.side_is))) (omega (arith, bound, counts))
 
     failed_asks : (q : QuestionData) → IsOfAttempt (next_after (listed_in payload) (left_at setup.role setup.config before)) q
-        → IsAt setup.role Client (phase_at setup.role setup.config.offer before) phase.Auth (expects_guess setup.role setup.config.offer before) → kind payload ≡ 51 → Asks q
+        → IsAt setup.role Client (phase_at setup.role setup.config.offer before) phase.Auth (expects_guess setup.role setup.config.offer before) → message_number payload ≡ 51 → Asks q
     failed_asks q p a is =
         let on : stood setup.role setup.config.offer (leaving setup.role phase.Service) before ≡ true = auth_due _ _ _ _ a.phase_is in
         let least : length (left_at setup.role setup.config before) - 1 ≤ still_asked (stood setup.role setup.config.offer (leaving setup.role phase.Service) before) (left_at setup.role setup.config before) = still_least _ _ in
@@ -428,7 +428,7 @@ module _ (numbers : Numbered) (setup : Setup) (version : List ℕ) where
         (stood_still setup.role setup.config.offer before payload (leaving setup.role phase.Service) on) (omega (arith, least, fewer, counts))
 
     confirmation_asks : (q : QuestionData) → is_waiting (left_at setup.role setup.config before) ≡ true → IsOfAttempt (confirmed (left_at setup.role setup.config before)) q
-        → IsAt setup.role Client (phase_at setup.role setup.config.offer before) phase.Auth (expects_guess setup.role setup.config.offer before) → kind payload ≡ 60 → Asks q
+        → IsAt setup.role Client (phase_at setup.role setup.config.offer before) phase.Auth (expects_guess setup.role setup.config.offer before) → message_number payload ≡ 60 → Asks q
     confirmation_asks q waits p a is =
         let on : stood setup.role setup.config.offer (leaving setup.role phase.Service) before ≡ true = auth_due _ _ _ _ a.phase_is in
         let bound : still_asked (stood setup.role setup.config.offer (leaving setup.role phase.Service) before) (left_at setup.role setup.config before) ≡ length (left_at setup.role setup.config before) = rw (on, waits) refl in
@@ -437,12 +437,12 @@ module _ (numbers : Numbered) (setup : Setup) (version : List ℕ) where
         attempt_made (confirmed (left_at setup.role setup.config before)) q a.side_is p (left_more setup.role setup.config before payload a.none_due ∙ rw is refl)
         (stood_still setup.role setup.config.offer before payload (leaving setup.role phase.Service) on) (omega (arith, bound, same, counts))
 
-    user_asks : (number : ℕ) (user service : List ℕ) (proof : ProofData) → expects_guess setup.role setup.config.offer before ≡ false → kind payload ≡ 50
+    user_asks : (number : ℕ) (user service : List ℕ) (proof : ProofData) → expects_guess setup.role setup.config.offer before ≡ false → message_number payload ≡ 50
         → number ≡ count_kept setup.role setup.config.offer 50 before + 1 → Asks (UserQuestion number user service proof)
     user_asks number user service proof none is same = (omega (arith, same), later)
       where
         more : count_kept setup.role setup.config.offer 50 (before ++ payload ∷ []) ≡ count_kept setup.role setup.config.offer 50 before + 1
-        more = count_push setup.role setup.config.offer before payload 50 ∙ rw (kept_free setup.role setup.config.offer before payload 50 none ∙ eq-eqb (kind payload) 50 is) refl
+        more = count_push setup.role setup.config.offer before payload 50 ∙ rw (kept_free setup.role setup.config.offer before payload 50 none ∙ eq-eqb (message_number payload) 50 is) refl
 
         later : (r : QuestionData) → MayAsk setup.role setup.config (before ++ payload ∷ []) r → ComesLater (UserQuestion number user service proof) r
         later (HostKeyQuestion algorithm blob) may = tt
@@ -450,12 +450,12 @@ module _ (numbers : Numbered) (setup : Setup) (version : List ℕ) where
         later (SignatureQuestion other_number algorithm blob input) may = tt
 
     place_asks : (q : QuestionData) → question_after setup version before payload ≡ Some q → Asks q
-    place_asks q e = by_message q (line_asks setup.suite setup.role setup.config numbers (known_at setup version before) payload (line_at setup.role setup.config before payload) q e).1
+    place_asks q e = by_message q (disposition_asks setup.suite setup.role setup.config numbers (known_at setup version before) payload (disposition_at setup.role setup.config before payload) q e).1
       where
-        has : Reads setup.role (phase_at setup.role setup.config.offer before) (expects_guess setup.role setup.config.offer before) (kind payload)
-        has = place_reads (line_asks setup.suite setup.role setup.config numbers (known_at setup version before) payload (line_at setup.role setup.config before payload) q e).0
+        has : Reads setup.role (phase_at setup.role setup.config.offer before) (expects_guess setup.role setup.config.offer before) (message_number payload)
+        has = place_reads (disposition_asks setup.suite setup.role setup.config numbers (known_at setup version before) payload (disposition_at setup.role setup.config before payload) q e).0
 
-        has_number : (n : ℕ) → kind payload ≡ n → Reads setup.role (phase_at setup.role setup.config.offer before) (expects_guess setup.role setup.config.offer before) n
+        has_number : (n : ℕ) → message_number payload ≡ n → Reads setup.role (phase_at setup.role setup.config.offer before) (expects_guess setup.role setup.config.offer before) n
         has_number n is = subst (Reads setup.role (phase_at setup.role setup.config.offer before) (expects_guess setup.role setup.config.offer before)) is has
 
         by_message : (q : QuestionData) → IsAsked (known_at setup version before) payload q → Asks q
@@ -525,40 +525,40 @@ module _ (setup : Setup) (version : List ℕ) where
   stands before payload old s =
       let known = old.known in
       let strict : strict_at setup.role setup.config before ≡ old.known.strict = ap (λ (k : Known). k.strict) s.knows in
-      let line_is : line_at setup.role setup.config before payload ≡ line_by setup.role old.phase old.known.strict old.guess (is_waiting old.known.left) (kind payload) =
-      ap (λ q. line_by setup.role q (strict_at setup.role setup.config before) (expects_guess setup.role setup.config.offer before) (waits_at setup.role setup.config before) (kind payload)) (tied_phase setup.role setup.config.offer before old.phase s.tied)
-      ∙ ap (λ b. line_by setup.role old.phase b (expects_guess setup.role setup.config.offer before) (waits_at setup.role setup.config before) (kind payload)) strict
-      ∙ ap (λ b. line_by setup.role old.phase old.known.strict b (waits_at setup.role setup.config before) (kind payload)) s.due
-      ∙ ap (λ (k : Known). line_by setup.role old.phase old.known.strict old.guess (is_waiting k.left) (kind payload)) s.knows in
-      sym (ap (λ k. line_question setup.suite setup.role setup.config k (line_at setup.role setup.config before payload) payload) s.knows
-      ∙ ap (λ l. line_question setup.suite setup.role setup.config old.known l payload) line_is)
+      let disposition_is : disposition_at setup.role setup.config before payload ≡ disposition_by setup.role old.phase old.known.strict old.guess (is_waiting old.known.left) (message_number payload) =
+      ap (λ q. disposition_by setup.role q (strict_at setup.role setup.config before) (expects_guess setup.role setup.config.offer before) (waits_at setup.role setup.config before) (message_number payload)) (tied_phase setup.role setup.config.offer before old.phase s.tied)
+      ∙ ap (λ b. disposition_by setup.role old.phase b (expects_guess setup.role setup.config.offer before) (waits_at setup.role setup.config before) (message_number payload)) strict
+      ∙ ap (λ b. disposition_by setup.role old.phase old.known.strict b (waits_at setup.role setup.config before) (message_number payload)) s.due
+      ∙ ap (λ (k : Known). disposition_by setup.role old.phase old.known.strict old.guess (is_waiting k.left) (message_number payload)) s.knows in
+      sym (ap (λ k. disposition_question setup.suite setup.role setup.config k (disposition_at setup.role setup.config before payload) payload) s.knows
+      ∙ ap (λ l. disposition_question setup.suite setup.role setup.config old.known l payload) disposition_is)
 
--- what is asked doesn't depend on the methods that are reached, so on no decision
-module _ (m : SuiteData) (role : Side) (party : ConfigData) where
-  unreached_method : (known : Known) (r : ReachedData) (user service : List ℕ) (method : MethodData)
-      → method_question m party (record known { reached = r }) user service method ≡ method_question m party known user service method
-  unreached_method known r user service (PublicKeyQuery algorithm key) = refl
-  unreached_method known r user service _ = refl
+-- what is asked doesn't depend on the methods that are completed, so on no decision
+module _ (m : SuiteData) (role : Side) (config : ConfigData) where
+  any_completed_method : (known : Known) (r : CompletedMethodsData) (user service : List ℕ) (method : MethodData)
+      → method_question m config (record known { completed = r }) user service method ≡ method_question m config known user service method
+  any_completed_method known r user service (PublicKeyQuery algorithm key) = refl
+  any_completed_method known r user service _ = refl
 
-  unreached_message : (known : Known) (r : ReachedData) (x : Result MessageData MsgFault) → message_question m role party (record known { reached = r }) x ≡ message_question m role party known x
+  any_completed_message : (known : Known) (r : CompletedMethodsData) (x : Result MessageData MsgFault) → message_question m role config (record known { completed = r }) x ≡ message_question m role config known x
   unfolding request_question init_question
-  unreached_message known r (Ok (UserauthRequest user service method)) = rw (unreached_method known r user service method) refl
-  unreached_message known r _ = refl
+  any_completed_message known r (Ok (UserauthRequest user service method)) = rw (any_completed_method known r user service method) refl
+  any_completed_message known r _ = refl
 
-  unreached : (known : Known) (r : ReachedData) (l : Line) (payload : List ℕ) → line_question m role party (record known { reached = r }) l payload ≡ line_question m role party known l payload
-  unfolding line_question
-  unreached known r line.Reads payload = unreached_message known r (message_in known.shares payload)
-  unreached known r _ payload = refl
+  any_completed : (known : Known) (r : CompletedMethodsData) (l : Disposition) (payload : List ℕ) → disposition_question m role config (record known { completed = r }) l payload ≡ disposition_question m role config known l payload
+  unfolding disposition_question
+  any_completed known r disposition.Reads payload = any_completed_message known r (message_in known.shares payload)
+  any_completed known r _ payload = refl
 
   module _ (d e : DecisionsData) (version : List ℕ) where
-    same_place : (before : Units) (payload : List ℕ) → question_after (setup_with m d role party) version before payload ≡ question_after (setup_with m e role party) version before payload
+    same_place : (before : Units) (payload : List ℕ) → question_after (setup_with m d role config) version before payload ≡ question_after (setup_with m e role config) version before payload
     same_place before payload =
-        unreached (known_at (setup_with m e role party) version before) (known_at (setup_with m d role party) version before).reached (line_at role party before payload) payload
+        any_completed (known_at (setup_with m e role config) version before) (known_at (setup_with m d role config) version before).completed (disposition_at role config before payload) payload
 
-    each_same : (before us : Units) → EachPlace (λ b u. asked (question_after (setup_with m d role party) version b u) ≡ asked (question_after (setup_with m e role party) version b u)) before us
+    each_same : (before us : Units) → EachPlace (λ b u. asked (question_after (setup_with m d role config) version b u) ≡ asked (question_after (setup_with m e role config) version b u)) before us
     each_same before [] = tt
     each_same before (u ∷ us) = (ap asked (same_place before u), each_same (before ++ u ∷ []) us)
 
-    pub same : (before : Units) → questions_at (setup_with m d role party) version before ≡ questions_at (setup_with m e role party) version before
+    pub same : (before : Units) → questions_at (setup_with m d role config) version before ≡ questions_at (setup_with m e role config) version before
     unfolding questions_at
     same before = flat-same _ _ [] before (each_same [] before)

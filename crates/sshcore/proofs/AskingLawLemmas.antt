@@ -43,7 +43,7 @@ use Rattle.sshcore.proofs.StreamLemmas.{sent_stays}
 module _ {S : Type 0} (meaning : S → SuiteData) (d : DecisionsData) where
   -- it, as one that asks at once
   abbrev pub at_once : AskingData S → EndpointData S DecisionsData
-  at_once e = record { role = e.role; party = e.party; suite = e.suite; decisions = d; input = e.input; state = e.state }
+  at_once e = record { role = e.role; config = e.config; suite = e.suite; decisions = d; input = e.input; state = e.state }
 
   same_at_once : (one other : AskingData S) → IsSameAsking one other → IsSameEndpoint (at_once one) (at_once other)
   same_at_once one other same = record { same_role = same.same_role; same_config = same.same_config; same_suite = same.same_suite; same_decisions = refl }
@@ -59,7 +59,7 @@ module _ {S : Type 0} (meaning : S → SuiteData) (d : DecisionsData) where
 module _ {S D : Type 0} (meaning : S → SuiteData) (policy : D → DecisionsData) where
   -- an endpoint that asks at once, by what its decisions are
   abbrev decided_so : EndpointData S D → EndpointData S DecisionsData
-  decided_so e = record { role = e.role; party = e.party; suite = e.suite; decisions = policy e.decisions; input = e.input; state = e.state }
+  decided_so e = record { role = e.role; config = e.config; suite = e.suite; decisions = policy e.decisions; input = e.input; state = e.state }
 
   -- an asking endpoint that waits for nothing, and one that asks at once
   pub joined_beside : Joined → (one : AskingData S) (other : EndpointData S D) → IsBeside one other → one.waiting ≡ None → by_owner (asking_end one) ≡ false → by_owner (endpoint_end other) ≡ false
@@ -211,10 +211,10 @@ asked_so (Disconnected reason) v q e = absurd cc
 
 module _ {S : Type 0} (meaning : S → SuiteData) where
   -- endpoints of one role, config and suite have one setup
-  pub setup_same : (d : DecisionsData) (role other_role : Side) (party other_party : ConfigData) (suite other_suite : S) → other_role ≡ role → other_party ≡ party → other_suite ≡ suite
-      → setup_with (meaning other_suite) d other_role other_party ≡ setup_with (meaning suite) d role party
-  setup_same d role other_role party other_party suite other_suite a b e =
-      ap (λ (x : S). setup_with (meaning x) d other_role other_party) e ∙ ap (λ (x : Side). setup_with (meaning suite) d x other_party) a ∙ ap (λ (x : ConfigData). setup_with (meaning suite) d role x) b
+  pub setup_same : (d : DecisionsData) (role other_role : Side) (config other_config : ConfigData) (suite other_suite : S) → other_role ≡ role → other_config ≡ config → other_suite ≡ suite
+      → setup_with (meaning other_suite) d other_role other_config ≡ setup_with (meaning suite) d role config
+  setup_same d role other_role config other_config suite other_suite a b e =
+      ap (λ (x : S). setup_with (meaning x) d other_role other_config) e ∙ ap (λ (x : Side). setup_with (meaning suite) d x other_config) a ∙ ap (λ (x : ConfigData). setup_with (meaning suite) d role x) b
 
   module _ (d : DecisionsData) (streams : Streams) (one : AskingData S) where
     pub waits_here : AsksByPacket meaning one → (h s : List ℕ) (a : AskingAfter meaning d one h s) (w : WaitingData) → one.waiting ≡ Some w → asking_end one ≡ Open → WaitsAfter (asking_setup meaning d one) a.stands.units w h
@@ -222,7 +222,7 @@ module _ {S : Type 0} (meaning : S → SuiteData) where
 
     module _ (other : AskingData S) (same : IsSameAsking one other) where
       one_setup : asking_setup meaning d other ≡ asking_setup meaning d one
-      one_setup = setup_same d one.role other.role one.party other.party one.suite other.suite same.same_role same.same_config same.same_suite
+      one_setup = setup_same d one.role other.role one.config other.config one.suite other.suite same.same_role same.same_config same.same_suite
 
       -- the same by what was received before an owner's end
       pub received_of : Joined → one.waiting ≡ None → other.waiting ≡ None → (h g s t x y : List ℕ) (a : AskingAfter meaning d one h s) (b : AskingAfter meaning d other g t)
@@ -260,4 +260,4 @@ module _ {S D : Type 0} (meaning : S → SuiteData) (policy : D → DecisionsDat
   front_beside h more s t is a b =
       stands_front streams (asking_setup meaning (policy other.decisions) one) (state_data one.state) (state_data other.state) one.input other.input one.waiting h more s t is a
       (subst (λ (x : Setup). EndpointStands x (state_data other.state) other.input (h ++ more) t)
-      (setup_same meaning (policy other.decisions) one.role other.role one.party other.party one.suite other.suite beside.same_role beside.same_config beside.same_suite) b)
+      (setup_same meaning (policy other.decisions) one.role other.role one.config other.config one.suite other.suite beside.same_role beside.same_config beside.same_suite) b)

@@ -27,7 +27,7 @@ use Rattle.sshcore.specs.Output.{sent_from}
 use Rattle.sshcore.specs.Questions.{AnswerData, Decided, HostKeyQuestion, QuestionData, SignatureQuestion, Signed, UserQuestion, always, decided, decided_by, question_at, taken, taken_by}
 use Rattle.sshcore.specs.StateData.{StateData, keys_due, state_data}
 use Rattle.sshcore.specs.Unread.{AnswerSteps, AskingStands, AskingSteps, IsAskingEndpoint, IsTurned, IsUnread, ReadsPacket, Turns, reads_with}
-use Rattle.sshcore.proofs.Below.{Below}
+use Rattle.sshcore.proofs.LawsBelow.{Below}
 use Rattle.sshcore.proofs.FeedLemmas.{SentMore, sent_last, stands_left}
 use Rattle.sshcore.proofs.HistoryLemmas.{Streams, broken}
 use Rattle.sshcore.proofs.QuestionLemmas.{brings_alike}
@@ -101,36 +101,36 @@ reads_as None strict r = refl
 reads_as (Some keys) strict r = refl
 
 -- A packet was answered, and holds for all decisions that answer alike what it asks.
-module _ (below : Below) (streams : Streams) (m : SuiteData) (role : Side) (party : ConfigData) (given : DecisionsData) (old new last : StateData) (before after : List ℕ) (is : old.end ≡ Open) where
+module _ (below : Below) (streams : Streams) (m : SuiteData) (role : Side) (config : ConfigData) (given : DecisionsData) (old new last : StateData) (before after : List ℕ) (is : old.end ≡ Open) where
   pub unit_steps : (r p q : PacketReader) (piece payload : List ℕ) (used packet : ℕ) → used ≤ length piece
       → ahead m (packet_reader_data r) piece ≡ whole payload (length (packet_reader_data r).held + used) → packet ≡ (packet_reader_data r).seq
       → packet_reader_data p ≡ record (packet_reader_data r) { keys = next_keys m (packet_reader_data r).keys (length (packet_reader_data r).held + used); held = []; seq = ((packet_reader_data r).seq + 1) % 2 ^ 32 }
-      → (HasForm m old → Brings (setup_with m given role party) old new packet payload before after) → Turns new last p q
-      → (d : DecisionsData) → decided_by d (question_at m role party old payload) ≡ decided_by given (question_at m role party old payload)
-      → Steps (setup_with m d role party) (input.Packets r) old (input.Packets q) last (take used piece) before after
+      → (HasForm m old → Brings (setup_with m given role config) old new packet payload before after) → Turns new last p q
+      → (d : DecisionsData) → decided_by d (question_at m role config old payload) ≡ decided_by given (question_at m role config old payload)
+      → Steps (setup_with m d role config) (input.Packets r) old (input.Packets q) last (take used piece) before after
   unit_steps r p q piece payload used packet low reads number left brings turns d alike =
-      packets_unit below streams (setup_with m d role party) r q old piece before after is p new last used packet payload low reads number left
-      (λ form. brings_alike m role party d given old new packet payload before after alike (brings form))
+      packets_unit below streams (setup_with m d role config) r q old piece before after is p new last used packet payload low reads number left
+      (λ form. brings_alike m role config d given old new packet payload before after alike (brings form))
       (ap (λ (k : StateData). k.end) turns.left) (ap (λ (k : StateData). k.phase) turns.left) (ap (λ (k : StateData). k.guess) turns.left) (ap (λ (k : StateData). k.known) turns.left)
       (ap (λ (k : StateData). k.sending) turns.left) (ap (λ (k : StateData). k.carried) turns.left)
       (turns.reads ∙ reads_as (keys_due new.phase new.carried.pending) new.known.strict (packet_reader_data p))
 
 -- A packet that waited is answered by these decisions.
-module _ (below : Below) (streams : Streams) (m : SuiteData) (role : Side) (party : ConfigData) (given : DecisionsData) (w : WaitingData) (old new last : StateData) (before after : List ℕ) (is : old.end ≡ Open) where
-  answer_packets : (p q : PacketReader) → question_at m role party old w.payload ≡ Some w.question
-      → (HasForm m old → Brings (setup_with m given role party) old new w.packet w.payload before after)
-      → Turns new last p q → AnswerSteps m role party (decided given w.question) w (input.Packets p) old (input.Packets q) last before after
+module _ (below : Below) (streams : Streams) (m : SuiteData) (role : Side) (config : ConfigData) (given : DecisionsData) (w : WaitingData) (old new last : StateData) (before after : List ℕ) (is : old.end ≡ Open) where
+  answer_packets : (p q : PacketReader) → question_at m role config old w.payload ≡ Some w.question
+      → (HasForm m old → Brings (setup_with m given role config) old new w.packet w.payload before after)
+      → Turns new last p q → AnswerSteps m role config (decided given w.question) w (input.Packets p) old (input.Packets q) last before after
   answer_packets p q asks brings turns d agrees i taken r =
       let same : p ≡ r.after = cc in
-      subst (λ (x : Input). Steps (setup_with m d role party) x old (input.Packets q) last taken before after) (sym r.was)
-      (subst (λ (l : List ℕ). Steps (setup_with m d role party) (input.Packets r.before) old (input.Packets q) last l before after) (take-length taken)
-      (unit_steps below streams m role party given old new last before after is r.before p q taken w.payload (length taken) w.packet (omega arith) r.reads r.number
+      subst (λ (x : Input). Steps (setup_with m d role config) x old (input.Packets q) last taken before after) (sym r.was)
+      (subst (λ (l : List ℕ). Steps (setup_with m d role config) (input.Packets r.before) old (input.Packets q) last l before after) (take-length taken)
+      (unit_steps below streams m role config given old new last before after is r.before p q taken w.payload (length taken) w.packet (omega arith) r.reads r.number
       (ap (λ (x : PacketReader). packet_reader_data x) same ∙ r.left) brings turns d
-      (alike_asked d given (question_at m role party old w.payload) w.question asks agrees)))
+      (alike_asked d given (question_at m role config old w.payload) w.question asks agrees)))
 
-  pub answer_steps : (j k : Input) → question_at m role party old w.payload ≡ Some w.question
-      → (HasForm m old → Brings (setup_with m given role party) old new w.packet w.payload before after)
-      → IsTurned new last j k → AnswerSteps m role party (decided given w.question) w j old k last before after
+  pub answer_steps : (j k : Input) → question_at m role config old w.payload ≡ Some w.question
+      → (HasForm m old → Brings (setup_with m given role config) old new w.packet w.payload before after)
+      → IsTurned new last j k → AnswerSteps m role config (decided given w.question) w j old k last before after
   answer_steps (input.Packets p) (input.Packets q) asks brings turned = answer_packets p q asks brings turned
   answer_steps (input.Packets p) (input.Lines q) asks brings turned = absurd turned
   answer_steps (input.Lines p) k asks brings turned = absurd turned
@@ -149,20 +149,20 @@ module _ (below : Below) (streams : Streams) (m : SuiteData) (role : Side) (part
   answered_turns (input.Lines p) k e turned = absurd turned
 
 -- A packet that asked is answered at once, by these decisions: both together are one step.
-pub answered_at_once : (m : SuiteData) (role : Side) (party : ConfigData) (d : DecisionsData) (i j k : Input) (old mid new : StateData) (w : WaitingData) (taken before between after : List ℕ)
-    → AskingSteps m role party i old j mid (Some w) taken before between → AnswerSteps m role party (decided d w.question) w j mid k new between after
-    → Steps (setup_with m d role party) i old k new taken before after
-answered_at_once m role party d i j k old mid new w taken before between after stops answers =
-    subst (λ (x : StateData). Steps (setup_with m d role party) i x k new taken before after) stops.same
-    (subst (λ (l : List ℕ). Steps (setup_with m d role party) i mid k new taken l after) stops.nothing_sent (answers d refl i taken stops.reads))
+pub answered_at_once : (m : SuiteData) (role : Side) (config : ConfigData) (d : DecisionsData) (i j k : Input) (old mid new : StateData) (w : WaitingData) (taken before between after : List ℕ)
+    → AskingSteps m role config i old j mid (Some w) taken before between → AnswerSteps m role config (decided d w.question) w j mid k new between after
+    → Steps (setup_with m d role config) i old k new taken before after
+answered_at_once m role config d i j k old mid new w taken before between after stops answers =
+    subst (λ (x : StateData). Steps (setup_with m d role config) i x k new taken before after) stops.same
+    (subst (λ (l : List ℕ). Steps (setup_with m d role config) i mid k new taken l after) stops.nothing_sent (answers d refl i taken stops.reads))
 
 -- what an open endpoint asks is what the packet asks that waits
-pub asks_packet : (m : SuiteData) (role : Side) (party : ConfigData) (kept : StateData) (j : Input) (w : Option WaitingData) → IsAskingEndpoint m role party kept j w
-    → (x : WaitingData) → w ≡ Some x → kept.end ≡ Open → question_at m role party kept x.payload ≡ Some x.question
-asks_packet m role party kept j None is x e o = absurd cc
-asks_packet m role party kept j (Some w) is x e o =
+pub asks_packet : (m : SuiteData) (role : Side) (config : ConfigData) (kept : StateData) (j : Input) (w : Option WaitingData) → IsAskingEndpoint m role config kept j w
+    → (x : WaitingData) → w ≡ Some x → kept.end ≡ Open → question_at m role config kept x.payload ≡ Some x.question
+asks_packet m role config kept j None is x e o = absurd cc
+asks_packet m role config kept j (Some w) is x e o =
     let same : w ≡ x = cc in
-    subst (λ (y : WaitingData). question_at m role party kept y.payload ≡ Some y.question) same (is.asked (inl o)).asks
+    subst (λ (y : WaitingData). question_at m role config kept y.payload ≡ Some y.question) same (is.asked (inl o)).asks
 
 -- who asks is open
 pub asks_open : (e : EndData) (w : Option WaitingData) → is_some (asked_at e w) ≡ true → e ≡ Open
@@ -173,10 +173,10 @@ asks_open (Closed reason) w some = absurd cc
 asks_open (Disconnected reason) w some = absurd cc
 
 -- an endpoint that ended authenticated waits for nothing
-pub asks_nothing : (m : SuiteData) (role : Side) (party : ConfigData) (kept : StateData) (j : Input) (w : Option WaitingData) → IsAskingEndpoint m role party kept j w
+pub asks_nothing : (m : SuiteData) (role : Side) (config : ConfigData) (kept : StateData) (j : Input) (w : Option WaitingData) → IsAskingEndpoint m role config kept j w
     → (a : AgreedData) → kept.end ≡ Authenticated a → w ≡ None
-asks_nothing m role party kept j None is a e = refl
-asks_nothing m role party kept j (Some w) is a e =
+asks_nothing m role config kept j None is a e = refl
+asks_nothing m role config kept j (Some w) is a e =
     let o : kept.end ≡ Open = (is.asked (inr (a, e))).is_open in
     absurd cc
 
@@ -263,35 +263,35 @@ module _ {S : Type 0} (meaning : S → SuiteData) where
               received = ap (λ (l : List ℕ). h ++ l) (take-add n b.used piece) ∙ sym (append_assoc h (take n piece) (take b.used (drop n piece))) ∙ x.received
                   ∙ ap (λ (l : List ℕ). x.earlier ++ l) (x.all none);
               all = λ e. refl;
-              broken = broken_as (meaning mid.suite) (meaning old.suite) d mid.role old.role mid.party old.party x.earlier ((s ++ f.added) ++ b.added) (s ++ (f.added ++ b.added))
+              broken = broken_as (meaning mid.suite) (meaning old.suite) d mid.role old.role mid.config old.config x.earlier ((s ++ f.added) ++ b.added) (s ++ (f.added ++ b.added))
                   (ap meaning f.same.same_suite) f.same.same_role f.same.same_config (append_assoc s f.added b.added) x.broken;
             };
         same = same_then old mid new f.same b.same;
       }
 
-  module _ (role : Side) (party : ConfigData) (suite : S) where
+  module _ (role : Side) (config : ConfigData) (suite : S) where
     abbrev asking : Input → State → Option WaitingData → AskingData S
-    asking i x w = record { role = role; party = party; suite = suite; input = i; state = x; waiting = w }
+    asking i x w = record { role = role; config = config; suite = suite; input = i; state = x; waiting = w }
 
     -- a step of what an endpoint keeps is a call that used these bytes
     fed_by : (i j : Input) (x y : State) (w : Option WaitingData) (taken before after : List ℕ)
-        → (added : List ℕ) × (after ≡ before ++ added) × AskingSteps (meaning suite) role party i (state_data x) j (state_data y) w taken [] added
+        → (added : List ℕ) × (after ≡ before ++ added) × AskingSteps (meaning suite) role config i (state_data x) j (state_data y) w taken [] added
         → AskingFed meaning (asking i x None) (asking j y w) taken before after
     fed_by i j x y None taken before after step = record {
       added = step.0;
       appended = step.1;
       follows = λ d h s a.
-          let setup = setup_with (meaning suite) d role party in
+          let setup = setup_with (meaning suite) d role config in
           let g = step.2 d h s (at_once setup (state_data x) i h s a) in
           asks_none setup (state_data y) j (h ++ taken) (s ++ step.0) (subst (λ (l : List ℕ). EndpointStands setup (state_data y) j (h ++ taken) (s ++ l)) (sym g.appended) g.stands);
-      uncut = λ d h s a owned. absurd (true≢false (sym owned ∙ (step.2 d h s (at_once (setup_with (meaning suite) d role party) (state_data x) i h s a)).uncut));
+      uncut = λ d h s a owned. absurd (true≢false (sym owned ∙ (step.2 d h s (at_once (setup_with (meaning suite) d role config) (state_data x) i h s a)).uncut));
       same = record { same_role = refl; same_config = refl; same_suite = refl };
     }
     fed_by i j x y (Some w) taken before after step = record {
       added = step.0;
       appended = step.1;
       follows = λ d h s a.
-          let setup = setup_with (meaning suite) d role party in
+          let setup = setup_with (meaning suite) d role config in
           record {
             earlier = h;
             reader = i;
@@ -305,7 +305,7 @@ module _ {S : Type 0} (meaning : S → SuiteData) where
     }
 
     pub fed_from : (i j : Input) (x y : State) (w v : Option WaitingData) (taken before after : List ℕ) → w ≡ None
-        → (added : List ℕ) × (after ≡ before ++ added) × AskingSteps (meaning suite) role party i (state_data x) j (state_data y) v taken [] added
+        → (added : List ℕ) × (after ≡ before ++ added) × AskingSteps (meaning suite) role config i (state_data x) j (state_data y) v taken [] added
         → AskingFed meaning (asking i x w) (asking j y v) taken before after
     fed_from i j x y w v taken before after none step =
         subst (λ (u : Option WaitingData). AskingFed meaning (asking i x u) (asking j y v) taken before after) (sym none) (fed_by i j x y v taken before after step)
@@ -315,13 +315,13 @@ module _ {S : Type 0} (meaning : S → SuiteData) where
 
     -- a packet that waited is answered by a step that used its bytes
     answered_by : (answer : AnswerData) (w : WaitingData) (i j : Input) (x y : State) (before after : List ℕ) → end_data x.end ≡ Open
-        → (added : List ℕ) × (after ≡ before ++ added) × AnswerSteps (meaning suite) role party answer w i (state_data x) j (state_data y) [] added
+        → (added : List ℕ) × (after ≡ before ++ added) × AnswerSteps (meaning suite) role config answer w i (state_data x) j (state_data y) [] added
         → Answered meaning answer (asking i x (Some w)) (asking j y None) before after
     answered_by answer w i j x y before after is step = record {
       added = step.0;
       appended = step.1;
       follows = λ d agrees h s a.
-          let setup = setup_with (meaning suite) d role party in
+          let setup = setup_with (meaning suite) d role config in
           let g = step.2 d (sym (ap (decided_by d) (asked_open (end_data x.end) w is)) ∙ agrees) a.reader a.unread.0 a.unread.2 a.earlier s a.stands in
           asks_none setup (state_data y) j h (s ++ step.0)
           (subst (λ (k : List ℕ). EndpointStands setup (state_data y) j k (s ++ step.0)) (sym a.unread.1)
@@ -332,7 +332,7 @@ module _ {S : Type 0} (meaning : S → SuiteData) where
     }
 
     pub answered_from : (answer : AnswerData) (w : WaitingData) (u v : Option WaitingData) (i j : Input) (x y : State) (before after : List ℕ) → u ≡ Some w → v ≡ None → end_data x.end ≡ Open
-        → (added : List ℕ) × (after ≡ before ++ added) × AnswerSteps (meaning suite) role party (taken w.question answer) w i (state_data x) j (state_data y) [] added
+        → (added : List ℕ) × (after ≡ before ++ added) × AnswerSteps (meaning suite) role config (taken w.question answer) w i (state_data x) j (state_data y) [] added
         → Answered meaning (taken_by (asked_at (end_data x.end) u) answer) (asking i x u) (asking j y v) before after
     answered_from answer w u v i j x y before after some none is step =
         subst (λ (a : Option WaitingData). Answered meaning (taken_by (asked_at (end_data x.end) a) answer) (asking i x a) (asking j y v) before after) (sym some)
@@ -342,18 +342,18 @@ module _ {S : Type 0} (meaning : S → SuiteData) where
 
     -- what was sent for its owner, at an endpoint that stood open, is a call that ended it
     pub leaves_by : SentMore → (i : Input) (x y : State) (w : Option WaitingData) (reason : ℕ) (description before after : List ℕ) (strict : Bool) (next : KeysData)
-        → end_data x.end ≡ Open → Gives (meaning suite) party.seed strict next (state_data x) (state_data y) before after (disconnects reason description)
+        → end_data x.end ≡ Open → Gives (meaning suite) config.seed strict next (state_data x) (state_data y) before after (disconnects reason description)
         → AskingLeaves meaning (asking i x w) (asking i y w) reason description before after
     leaves_by more i x y w reason description before after strict next is gives = record {
       left = gives.ends;
-      added = sent_from (meaning suite) party.seed strict next (state_data x).sending (parting reason description ∷ []);
+      added = sent_from (meaning suite) config.seed strict next (state_data x).sending (parting reason description ∷ []);
       appended = gives.output;
       follows = λ d h s a. record {
         earlier = a.earlier;
         reader = a.reader;
-        stands = stands_left (setup_with (meaning suite) d role party) (state_data x) a.reader a.earlier s is a.stands (state_data y) reason gives.ends;
+        stands = stands_left (setup_with (meaning suite) d role config) (state_data x) a.reader a.earlier s is a.stands (state_data y) reason gives.ends;
         unread = a.unread;
       };
-      sent = λ d h s a. sent_last (setup_with (meaning suite) d role party) (state_data x) a.reader a.earlier s is a.stands more reason description strict next;
+      sent = λ d h s a. sent_last (setup_with (meaning suite) d role config) (state_data x) a.reader a.earlier s is a.stands more reason description strict next;
       same = record { same_role = refl; same_config = refl; same_suite = refl };
     }

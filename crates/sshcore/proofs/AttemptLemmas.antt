@@ -5,7 +5,7 @@ use Rattle.std.specs.List.{AllByRecursion, position_or_len, slice_get}
 use Rattle.std.specs.Option.{option_copied}
 use Rattle.std.proofs.lemmas.Bool.{cases_Bool, ltb-false}
 use Rattle.std.proofs.lemmas.List.{take_rest}
-use Rattle.sshmsg.specs.Numbers.{kind}
+use Rattle.sshmsg.specs.Numbers.{message_number}
 use Rattle.sshmsg.specs.Written.{written_message}
 use Rattle.sshneg.specs.ChoiceReadings.{is_in}
 use Rattle.sshpacket.specs.Suite.{SuiteData}
@@ -16,7 +16,7 @@ use Rattle.sshcore.specs.ConfigRules.{IsAttempt}
 use Rattle.sshcore.specs.ConfigView.{attempt_data, credential_data}
 use Rattle.sshcore.specs.EndpointParts.{DecisionsData}
 use Rattle.sshcore.specs.StateData.{left_of}
-use Rattle.sshcore.specs.Known.{Known}
+use Rattle.sshcore.specs.KnownBefore.{Known}
 use Rattle.sshcore.specs.Plan.{after_query, confirmed, first_made, next_after, next_listed, proving_name, unasked}
 
 -- whether the method of an attempt is listed
@@ -118,7 +118,7 @@ pub split_some : (attempts : List attempt_parts.Attempt) (a : attempt_parts.Atte
 split_some attempts a later e = ap (map attempt_data) e
 
 -- a request is no NEWKEYS
-pub quiet_request : (m : SuiteData) (d : DecisionsData) (number : ℕ) (session : List ℕ) (a : AttemptData) → (kind (request_of m d number session a) == 21) ≡ false
+pub quiet_request : (m : SuiteData) (d : DecisionsData) (number : ℕ) (session : List ℕ) (a : AttemptData) → (message_number (request_of m d number session a) == 21) ≡ false
 unfolding written_message
 quiet_request m d number session a = refl
 

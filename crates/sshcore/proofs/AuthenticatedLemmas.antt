@@ -8,7 +8,7 @@ use Rattle.sshwire.specs.declared.share_form.ShareForm.TheVariants.{Mpint}
 use Rattle.sshmsg.specs.declared.fault.MsgFault.{MsgFault}
 use Rattle.sshmsg.specs.MessageData.{Disconnect, KexEcdhInit, KexEcdhReply, KexInit, KexInitData, KexdhInit, KexdhReply, MessageData, MethodData, NewKeys, ServiceAccept, ServiceRequest, Unimplemented, UserauthFailure, UserauthPkOk, UserauthRequest, UserauthSuccess, method_name}
 use Rattle.sshmsg.specs.Messages.{message_in}
-use Rattle.sshmsg.specs.Numbers.{kind}
+use Rattle.sshmsg.specs.Numbers.{message_number}
 use Rattle.sshmsg.specs.Written.{written_message}
 use Rattle.sshneg.specs.declared.choice.NoCommon.{NoCommon}
 use Rattle.sshneg.specs.declared.side.Side.{Side}
@@ -21,10 +21,10 @@ use Rattle.sshpacket.specs.Parse.{Refusal}
 use Rattle.sshpacket.specs.Stream.{Units}
 use Rattle.sshpacket.specs.Suite.{ResponseData, SuiteData}
 use Rattle.sshcore.specs.declared.end.Fault.TheVariants as fault
-use Rattle.sshcore.specs.declared.table.Line.{Line}
-use Rattle.sshcore.specs.declared.table.Line.TheVariants as line
-use Rattle.sshcore.specs.declared.table.Phase.{Phase}
-use Rattle.sshcore.specs.declared.table.Phase.TheVariants as phase
+use Rattle.sshcore.specs.declared.phase_table.Disposition.{Disposition}
+use Rattle.sshcore.specs.declared.phase_table.Disposition.TheVariants as disposition
+use Rattle.sshcore.specs.declared.phase_table.Phase.{Phase}
+use Rattle.sshcore.specs.declared.phase_table.Phase.TheVariants as phase
 use Rattle.sshcore.specs.Attempts.{agreed_by, answers_query, attempt_reply, pk_ok_reply, success_by}
 use Rattle.sshcore.specs.Authenticated.{AcceptsUser, IsAcceptedUser, IsAuthenticated, WasAccepted}
 use Rattle.sshcore.specs.Before.{count_kept, expects_guess, kept, stood, strict_at, strict_towards}
@@ -33,27 +33,27 @@ use Rattle.sshcore.specs.Counting.{number_in}
 use Rattle.sshcore.specs.Directions.{payloads_in, version_in}
 use Rattle.sshcore.specs.EndData.{AgreedData, Authenticated, Closed, Disconnected, EndData, Failed, Open, Reply, by_owner, fails, goes}
 use Rattle.sshcore.specs.Exchange.{answer_with, choice_with, exchange_with, secret_of}
-use Rattle.sshcore.specs.Known.{Known, known_at, waits_at}
+use Rattle.sshcore.specs.KnownBefore.{Known, known_at, waits_at}
 use Rattle.sshcore.specs.EndpointParts.{ConfigData, DecisionsData, Setup}
 use Rattle.sshcore.specs.Phases.{leaving, past_newkeys, phase_at}
 use Rattle.sshcore.specs.Plan.{confirmed, next_after}
-use Rattle.sshcore.specs.Replies.{Ends, end_at, ended, goes_on, line_reply, read_reply, refusal_reply}
-use Rattle.sshcore.specs.Reached.{ReachedData, Tried, are_reached, is_complete, nothing_reached, reached_after, reached_after_one}
+use Rattle.sshcore.specs.Replies.{Ends, disposition_reply, end_at, ended, goes_on, read_reply, refusal_reply}
+use Rattle.sshcore.specs.CompletedMethods.{CompletedMethodsData, Tried, are_completed, completed_after, completed_after_one, is_complete, none_completed}
 use Rattle.sshcore.specs.Requests.{completes, is_successful, request_reply}
 use Rattle.sshcore.specs.Tries.{is_successful_at, session_known, tried_at, tried_in, tried_place, tried_with}
 use Rattle.sshcore.specs.Standing.{Tied}
-use Rattle.sshcore.specs.Table.{line_by}
+use Rattle.sshcore.specs.Table.{disposition_by}
 use Rattle.sshcore.specs.Signatures.{signature_by}
 use Rattle.sshcore.specs.Work.{answered_by, banner_by, chosen_reply, init_reply, kexinit_reply, reply_reply, signed_by, signed_reply, userauth, work}
 use Rattle.sshcore.proofs.IgnoredLimitLemmas.{by_allowance}
 use Rattle.sshcore.proofs.AnswerLemmas.{Elsewhere, IsAnswered, Last, More, Succeeds, answered}
-use Rattle.sshcore.proofs.Below.{Below}
+use Rattle.sshcore.proofs.LawsBelow.{Below}
 use Rattle.sshcore.proofs.PhaseLemmas.{kept_free, tied_leaves, tied_phase}
 use Rattle.sshcore.proofs.PlanLemmas.{tried_push}
-use Rattle.sshcore.proofs.ReachedLemmas.{complete_sound}
+use Rattle.sshcore.proofs.CompletedMethodsLemmas.{complete_sound}
 use Rattle.sshcore.proofs.ReadsLemmas.{Reads, reads, success_read, user_request_read}
 use Rattle.sshcore.proofs.StrictLaws.{begun_none, past_parts, stands}
-use Rattle.sshcore.proofs.StrictSteps.{line_is}
+use Rattle.sshcore.proofs.StrictSteps.{disposition_is}
 
 -- neither authenticated nor ended by its owner
 abbrev is_early : EndData → Bool
@@ -77,13 +77,13 @@ early_cond false r o x y = y
 
 -- How the reply to a message ends: early; or authenticated, by a successful request for a service that the server has, or by a
 -- SUCCESS where an attempt was made.
-pub data WorkEnds (m : SuiteData) (d : DecisionsData) (party : ConfigData) (known : Known) (c : MessageData) (end : EndData) : Type 0 where
-  Early : IsEarly end → WorkEnds m d party known c end
-  Requested : (user service : List ℕ) (method : MethodData) → c ≡ UserauthRequest user service method → is_in party.services service ≡ true
-      → is_successful m d party known user service method ≡ true → completes party known user service method true ≡ true
-      → end ≡ Authenticated (agreed_by known user service) → WorkEnds m d party known c end
+pub data WorkEnds (m : SuiteData) (d : DecisionsData) (config : ConfigData) (known : Known) (c : MessageData) (end : EndData) : Type 0 where
+  Early : IsEarly end → WorkEnds m d config known c end
+  Requested : (user service : List ℕ) (method : MethodData) → c ≡ UserauthRequest user service method → is_in config.services service ≡ true
+      → is_successful m d config known user service method ≡ true → completes config known user service method true ≡ true
+      → end ≡ Authenticated (agreed_by known user service) → WorkEnds m d config known c end
   Succeeded : (made : AttemptData) (later : List AttemptData) → c ≡ UserauthSuccess → known.left ≡ made ∷ later
-      → end ≡ Authenticated (agreed_by known made.user made.service) → WorkEnds m d party known c end
+      → end ≡ Authenticated (agreed_by known made.user made.service) → WorkEnds m d config known c end
 
 module _ (setup : Setup) where
   early_chosen : (peer : KexInitData) (r : Result AlgorithmsData NoCommon) → IsEarly (chosen_reply setup.suite setup.role setup.config peer r).end
@@ -173,12 +173,12 @@ same_agreed : (x y : AgreedData) → Authenticated x ≡ Authenticated y → x �
 same_agreed x y e = cc
 
 -- by what the user that is agreed on is accepted
-accepts : (m : SuiteData) (d : DecisionsData) (party : ConfigData) (known : Known) (tried : List Tried) (payload user service : List ℕ) (method : MethodData) (a : AgreedData) → agreed_by known user service ≡ a
-    → message_in known.shares payload ≡ Ok (UserauthRequest user service method) → is_in party.services service ≡ true
-    → is_successful m d party known user service method ≡ true → are_reached party.required user service (tried ++ tried_with user service method true ∷ []) ≡ true
-    → AcceptsUser m d party known tried payload a
-accepts m d party known tried payload user service method a e requests has successful reached =
-    subst (AcceptsUser m d party known tried payload) e (record { method = method; requests = requests; has_service = has; successful = successful; reached = reached })
+accepts : (m : SuiteData) (d : DecisionsData) (config : ConfigData) (known : Known) (tried : List Tried) (payload user service : List ℕ) (method : MethodData) (a : AgreedData) → agreed_by known user service ≡ a
+    → message_in known.shares payload ≡ Ok (UserauthRequest user service method) → is_in config.services service ≡ true
+    → is_successful m d config known user service method ≡ true → are_completed config.required user service (tried ++ tried_with user service method true ∷ []) ≡ true
+    → AcceptsUser m d config known tried payload a
+accepts m d config known tried payload user service method a e requests has successful completed =
+    subst (AcceptsUser m d config known tried payload) e (record { method = method; requests = requests; has_service = has; successful = successful; completed = completed })
 
 was_accepted : (known : Known) (payload : List ℕ) (made : AttemptData) (later : List AttemptData) (a : AgreedData) → agreed_by known made.user made.service ≡ a
     → message_in known.shares payload ≡ Ok UserauthSuccess → known.left ≡ made ∷ later → WasAccepted known payload a
@@ -189,7 +189,7 @@ was_accepted known payload made later a e succeeds left =
 record Agrees (setup : Setup) (p : Phase) (guess : Bool) (known : Known) (tried : List Tried) (payload : List ℕ) (a : AgreedData) : Type 0 where
   at : p ≡ phase.Auth
   none_due : guess ≡ false
-  leaves : kind payload ≡ leaving setup.role phase.Auth
+  leaves : message_number payload ≡ leaving setup.role phase.Auth
   agreed_is : a ≡ agreed_by known a.user a.service
   accepted_user : IsAcceptedUser setup.suite setup.decisions setup.role setup.config known tried payload a
 
@@ -199,11 +199,11 @@ none_refused (Some r) a e = cc
 
 module _ (below : Below) (setup : Setup) where
   -- a successful request is read at a server, and a SUCCESS at a client
-  requested : (p : Phase) (guess : Bool) (known : Known) (tried : List Tried) (payload user service : List ℕ) (method : MethodData) (a : AgreedData) → Reads setup.role p guess (kind payload)
+  requested : (p : Phase) (guess : Bool) (known : Known) (tried : List Tried) (payload user service : List ℕ) (method : MethodData) (a : AgreedData) → Reads setup.role p guess (message_number payload)
       → message_in known.shares payload ≡ Ok (UserauthRequest user service method) → is_in setup.config.services service ≡ true → is_successful setup.suite setup.decisions setup.config known user service method ≡ true
-      → completes setup.config known user service method true ≡ true → known.reached ≡ reached_after nothing_reached tried → agreed_by known user service ≡ a → Agrees setup p guess known tried payload a
+      → completes setup.config known user service method true ≡ true → known.completed ≡ completed_after none_completed tried → agreed_by known user service ≡ a → Agrees setup p guess known tried payload a
   requested p guess known tried payload user service method a r requests has successful done kept e =
-      let is : kind payload ≡ 50 = below.numbers known.shares payload (UserauthRequest user service method) requests in
+      let is : message_number payload ≡ 50 = below.numbers known.shares payload (UserauthRequest user service method) requests in
       let at = user_request_read setup.role p guess (subst (Reads setup.role p guess) is r) in
       record {
         at = at.phase_is;
@@ -212,13 +212,13 @@ module _ (below : Below) (setup : Setup) where
         agreed_is = agrees_by known user service a e;
         accepted_user = subst (λ (side : Side). IsAcceptedUser setup.suite setup.decisions side setup.config known tried payload a) (sym at.side_is) (accepts setup.suite setup.decisions setup.config known tried payload user service method a e requests has successful
             (complete_sound tried (tried_with user service method true) (method_name method) refl setup.config.required
-            (ap (λ (q : ReachedData). is_complete setup.config.required (reached_after_one q (tried_with user service method true))) (sym kept) ∙ done)));
+            (ap (λ (q : CompletedMethodsData). is_complete setup.config.required (completed_after_one q (tried_with user service method true))) (sym kept) ∙ done)));
       }
 
-  succeeded : (p : Phase) (guess : Bool) (known : Known) (tried : List Tried) (payload : List ℕ) (made : AttemptData) (later : List AttemptData) (a : AgreedData) → Reads setup.role p guess (kind payload)
+  succeeded : (p : Phase) (guess : Bool) (known : Known) (tried : List Tried) (payload : List ℕ) (made : AttemptData) (later : List AttemptData) (a : AgreedData) → Reads setup.role p guess (message_number payload)
       → message_in known.shares payload ≡ Ok UserauthSuccess → known.left ≡ made ∷ later → agreed_by known made.user made.service ≡ a → Agrees setup p guess known tried payload a
   succeeded p guess known tried payload made later a r succeeds left e =
-      let is : kind payload ≡ 52 = below.numbers known.shares payload UserauthSuccess succeeds in
+      let is : message_number payload ≡ 52 = below.numbers known.shares payload UserauthSuccess succeeds in
       let at = success_read setup.role p guess (subst (Reads setup.role p guess) is r) in
       record {
         at = at.phase_is;
@@ -229,40 +229,40 @@ module _ (below : Below) (setup : Setup) where
       }
 
   -- a message that is read
-  by_read : (p : Phase) (strict guess waits : Bool) (known : Known) (tried : List Tried) (payload : List ℕ) → known.reached ≡ reached_after nothing_reached tried → line_by setup.role p strict guess waits (kind payload) ≡ line.Reads → (a : AgreedData)
-      → (r : Result MessageData MsgFault) → message_in known.shares payload ≡ r → (read_reply setup known (kind payload) r).end ≡ Authenticated a
+  by_read : (p : Phase) (strict guess waits : Bool) (known : Known) (tried : List Tried) (payload : List ℕ) → known.completed ≡ completed_after none_completed tried → disposition_by setup.role p strict guess waits (message_number payload) ≡ disposition.Reads → (a : AgreedData)
+      → (r : Result MessageData MsgFault) → message_in known.shares payload ≡ r → (read_reply setup known (message_number payload) r).end ≡ Authenticated a
       → Agrees setup p guess known tried payload a
   by_read p strict guess waits known tried payload kept reads_it a (Err f) e end = absurd cc
   by_read p strict guess waits known tried payload kept reads_it a (Ok c) e end = by (work_ends setup known c)
     where
       by : WorkEnds setup.suite setup.decisions setup.config known c (work setup known c).end → Agrees setup p guess known tried payload a
       by (Early h) = absurd (true≢false (sym h ∙ ap is_early end))
-      by (Requested user service method same has successful done is) = requested p guess known tried payload user service method a (reads setup.role p strict waits (kind payload) guess reads_it)
+      by (Requested user service method same has successful done is) = requested p guess known tried payload user service method a (reads setup.role p strict waits (message_number payload) guess reads_it)
           (e ∙ ap Ok same) has successful done kept (same_agreed (agreed_by known user service) a (sym is ∙ end))
-      by (Succeeded made later same left is) = succeeded p guess known tried payload made later a (reads setup.role p strict waits (kind payload) guess reads_it)
+      by (Succeeded made later same left is) = succeeded p guess known tried payload made later a (reads setup.role p strict waits (message_number payload) guess reads_it)
           (e ∙ ap Ok same) left (same_agreed (agreed_by known made.user made.service) a (sym is ∙ end))
 
-  by_line : (p : Phase) (strict guess waits : Bool) (known : Known) (tried : List Tried) (packet : ℕ) (payload : List ℕ) (l : Line) → known.reached ≡ reached_after nothing_reached tried → line_by setup.role p strict guess waits (kind payload) ≡ l → (a : AgreedData)
-      → (line_reply setup known packet l payload).end ≡ Authenticated a → Agrees setup p guess known tried payload a
-  unfolding line_reply
-  by_line p strict guess waits known tried packet payload line.Reads kept is a end =
-      by_allowance (λ (r : Reply). r.end ≡ Authenticated a → Agrees setup p guess known tried payload a) known payload (read_reply setup known (kind payload) (message_in known.shares payload))
+  by_disposition : (p : Phase) (strict guess waits : Bool) (known : Known) (tried : List Tried) (packet : ℕ) (payload : List ℕ) (l : Disposition) → known.completed ≡ completed_after none_completed tried → disposition_by setup.role p strict guess waits (message_number payload) ≡ l → (a : AgreedData)
+      → (disposition_reply setup known packet l payload).end ≡ Authenticated a → Agrees setup p guess known tried payload a
+  unfolding disposition_reply
+  by_disposition p strict guess waits known tried packet payload disposition.Reads kept is a end =
+      by_allowance (λ (r : Reply). r.end ≡ Authenticated a → Agrees setup p guess known tried payload a) known payload (read_reply setup known (message_number payload) (message_in known.shares payload))
       (λ over. absurd cc) (λ within. by_read p strict guess waits known tried payload kept is a (message_in known.shares payload) refl within) end
-  by_line p strict guess waits known tried packet payload line.Drops kept is a end = absurd cc
-  by_line p strict guess waits known tried packet payload line.Deviates kept is a end = absurd cc
-  by_line p strict guess waits known tried packet payload line.Unknown kept is a end =
+  by_disposition p strict guess waits known tried packet payload disposition.Drops kept is a end = absurd cc
+  by_disposition p strict guess waits known tried packet payload disposition.Deviates kept is a end = absurd cc
+  by_disposition p strict guess waits known tried packet payload disposition.Unknown kept is a end =
       by_allowance (λ (r : Reply). r.end ≡ Authenticated a → Agrees setup p guess known tried payload a) known payload (goes (written_message (Unimplemented packet) ∷ []))
       (λ over. absurd cc) (λ within. absurd cc) end
-  by_line p strict guess waits known tried packet payload line.Unexpected kept is a end = absurd cc
+  by_disposition p strict guess waits known tried packet payload disposition.Unexpected kept is a end = absurd cc
 
   -- at an endpoint that stood open before
   at_last : (version : List ℕ) (before : Units) (payload : List ℕ) (p : Phase) → Tied setup.role setup.config.offer before p → (a : AgreedData)
       → end_at setup (version ∷ before) payload ≡ Authenticated a
       → Agrees setup p (expects_guess setup.role setup.config.offer before) (known_at setup version before) (tried_at setup version before) payload a
   at_last version before payload p t a end =
-      let l = line_by setup.role p (strict_at setup.role setup.config before) (expects_guess setup.role setup.config.offer before) (waits_at setup.role setup.config before) (kind payload) in
-      by_line p (strict_at setup.role setup.config before) (expects_guess setup.role setup.config.offer before) (waits_at setup.role setup.config before) (known_at setup version before) (tried_at setup version before) (number_in setup.role setup.config before) payload l refl refl a
-      (ap (λ (l : Line). (line_reply setup (known_at setup version before) (number_in setup.role setup.config before) l payload).end) (line_is below setup version before payload p t) ∙ end)
+      let l = disposition_by setup.role p (strict_at setup.role setup.config before) (expects_guess setup.role setup.config.offer before) (waits_at setup.role setup.config before) (message_number payload) in
+      by_disposition p (strict_at setup.role setup.config before) (expects_guess setup.role setup.config.offer before) (waits_at setup.role setup.config before) (known_at setup version before) (tried_at setup version before) (number_in setup.role setup.config before) payload l refl refl a
+      (ap (λ (l : Disposition). (disposition_reply setup (known_at setup version before) (number_in setup.role setup.config before) l payload).end) (disposition_is below setup version before payload p t) ∙ end)
 
   pub last_tied : (version : List ℕ) (before : Units) (last : List ℕ) (p : Phase) → Tied setup.role setup.config.offer before p → (a : AgreedData)
       → end_at setup (version ∷ before) last ≡ Authenticated a → Tied setup.role setup.config.offer before phase.Auth
@@ -309,7 +309,7 @@ module _ (below : Below) (setup : Setup) where
       let at = at_last version before last p t a end in
       let known : Known = known_at setup version before in
       let r : AcceptsUser setup.suite setup.decisions setup.config known (tried_at setup version before) last a = subst (λ (side : Side). IsAcceptedUser setup.suite setup.decisions side setup.config known (tried_at setup version before) last a) server at.accepted_user in
-      let is : kind last ≡ 50 = below.numbers known.shares last (UserauthRequest a.user a.service r.method) r.requests in
+      let is : message_number last ≡ 50 = below.numbers known.shares last (UserauthRequest a.user a.service r.method) r.requests in
       let read : message_in Mpint last ≡ Ok (UserauthRequest a.user a.service r.method) = below.alike Mpint known.shares last (λ q. omega (arith, q, is)) (λ q. omega (arith, q, is)) ∙ r.requests in
       let here : kept setup.role setup.config.offer 50 before last ≡ true = kept_free setup.role setup.config.offer before last 50 at.none_due ∙ rw is refl in (
         r.method,

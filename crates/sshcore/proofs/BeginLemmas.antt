@@ -9,8 +9,8 @@ use Rattle.sshpacket.specs.Places.{flat_places}
 use Rattle.sshpacket.specs.Suite.{SuiteData}
 use Rattle.sshcore.specs.declared.input.Input.{Input}
 use Rattle.sshcore.specs.declared.input.Input.TheVariants as input
-use Rattle.sshcore.specs.declared.table.Phase.{Phase}
-use Rattle.sshcore.specs.declared.table.Phase.TheVariants as phase
+use Rattle.sshcore.specs.declared.phase_table.Phase.{Phase}
+use Rattle.sshcore.specs.declared.phase_table.Phase.TheVariants as phase
 use Rattle.sshcore.specs.Before.{strict_at}
 use Rattle.sshcore.specs.Brings.{Gives}
 use Rattle.sshcore.specs.Directions.{form_of, preamble_of, spells}
@@ -19,13 +19,13 @@ use Rattle.sshcore.specs.Exchange.{keys_at}
 use Rattle.sshcore.specs.History.{History}
 use Rattle.sshcore.specs.Inputs.{AsReceived, Begins, EndpointStands, IsInput, pending_at}
 use Rattle.sshcore.specs.StateData.{StateData, begun}
-use Rattle.sshcore.specs.Known.{Known}
+use Rattle.sshcore.specs.KnownBefore.{Known}
 use Rattle.sshcore.specs.Output.{Sending, Speaks, sent_from}
 use Rattle.sshcore.specs.EndpointParts.{ConfigData, Setup}
 use Rattle.sshcore.specs.Phases.{past_exchange, past_kexinit}
 use Rattle.sshcore.specs.Standing.{Sits}
 use Rattle.sshcore.specs.Work.{making}
-use Rattle.sshcore.proofs.Below.{Below}
+use Rattle.sshcore.proofs.LawsBelow.{Below}
 use Rattle.sshcore.proofs.FeedLemmas.{clear_before, none_sent}
 use Rattle.sshcore.proofs.HistoryLemmas as history
 use Rattle.sshcore.proofs.HistoryLemmas.{Streams}
@@ -35,14 +35,14 @@ use Rattle.sshcore.proofs.PlanLemmas.{no_successful_key}
 use Rattle.sshcore.proofs.SendingLemmas as sending_lemmas
 use Rattle.sshcore.proofs.StandingLemmas as standing
 
-first_input : (m : SuiteData) (role : Side) (party : ConfigData) (i : Input) → Begins role (form_of party.reading role) i → IsInput m role party [] [] [] i
-first_input m role party (input.Lines reader) b = (refl, b.0, b.1)
-first_input m role party (input.Packets reader) b = absurd b
+first_input : (m : SuiteData) (role : Side) (config : ConfigData) (i : Input) → Begins role (form_of config.reading role) i → IsInput m role config [] [] [] i
+first_input m role config (input.Lines reader) b = (refl, b.0, b.1)
+first_input m role config (input.Packets reader) b = absurd b
 
 -- nothing was sent, and nothing is sealed
-speaks_first : (m : SuiteData) (role : Side) (party : ConfigData) → Speaks m role party [] [] (record { keys = None; number = 0 })
-speaks_first m role party =
-    let none = sending_lemmas.none_sent (strict_at role party []) in
+speaks_first : (m : SuiteData) (role : Side) (config : ConfigData) → Speaks m role config [] [] (record { keys = None; number = 0 })
+speaks_first m role config =
+    let none = sending_lemmas.none_sent (strict_at role config []) in
     record { keys = rw none.0 refl; number = sym none.1 }
 
 not_past : (p : Phase) → p ≡ phase.KexInit → past_kexinit p ≡ true → ⊥

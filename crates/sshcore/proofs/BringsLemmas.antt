@@ -5,15 +5,15 @@ use Rattle.std.specs.Prelude.{◌&&◌, ◌||◌, not}
 use Rattle.std.proofs.lemmas.Bool.{cases_Bool, true≢false}
 use Rattle.sshmsg.specs.MessageData.{Unimplemented}
 use Rattle.sshmsg.specs.Messages.{message_in}
-use Rattle.sshmsg.specs.Numbers.{kind}
+use Rattle.sshmsg.specs.Numbers.{message_number}
 use Rattle.sshmsg.specs.Written.{written_message}
 use Rattle.sshneg.specs.declared.side.Side.{Side}
 use Rattle.sshpacket.specs.KeysData.{KeysData}
 use Rattle.sshcore.specs.declared.end.Fault.{Fault}
 use Rattle.sshcore.specs.declared.end.Fault.TheVariants as fault
-use Rattle.sshcore.specs.declared.table.Line.{Line}
-use Rattle.sshcore.specs.declared.table.Line.TheVariants as line
-use Rattle.sshcore.specs.declared.table.Phase.{Phase}
+use Rattle.sshcore.specs.declared.phase_table.Disposition.{Disposition}
+use Rattle.sshcore.specs.declared.phase_table.Disposition.TheVariants as disposition
+use Rattle.sshcore.specs.declared.phase_table.Phase.{Phase}
 use Rattle.sshcore.specs.IgnoredLimit.{is_taken, overspends}
 use Rattle.sshcore.specs.Brings.{Brings, Drops, Gives, Stays, Works, received_counted, received_one}
 use Rattle.sshcore.specs.EndData.{Open, fails, goes}
@@ -21,23 +21,23 @@ use Rattle.sshcore.specs.StateData.{StateData}
 use Rattle.sshcore.specs.EndpointParts.{Setup}
 use Rattle.sshcore.specs.Plan.{is_waiting}
 use Rattle.sshcore.specs.Phases.{leaving}
-use Rattle.sshcore.specs.Replies.{line_reply, read_reply}
+use Rattle.sshcore.specs.Replies.{disposition_reply, read_reply}
 use Rattle.sshcore.specs.Standing.{LeavesNone}
-use Rattle.sshcore.specs.Table.{is_ignored, is_of_auth, is_of_method, is_ruled, is_unknown, line_by, takes_extensions}
+use Rattle.sshcore.specs.Table.{disposition_by, is_ignored, is_of_auth, is_of_method, is_ruled, is_unknown, takes_extensions}
 use Rattle.sshcore.proofs.AfterLemmas.{after_counted, carried_stays}
 use Rattle.sshcore.proofs.TableLemmas.{Closing, Dropped, Leaving, OffGuess, OffPhase, Sees, Staying, Useless, sees}
 use Rattle.sshcore.proofs.WorksLemmas.{failed_ends, silent}
 
 -- the line that the code has found
-pub line_is : (l : Line) (role same_role : Side) (p : Phase) (strict guess waits same_waits : Bool) (n same_number : ℕ) → same_role ≡ role → same_waits ≡ waits
-    → same_number ≡ n → l ≡ line_by same_role p strict guess same_waits same_number → line_by role p strict guess waits n ≡ l
-line_is l role same_role p strict guess waits same_waits n same_number r w k e =
-    sym (e ∙ (ap (λ (x : Side). line_by x p strict guess same_waits same_number) r ∙ (ap (λ (x : Bool). line_by role p strict guess x same_number) w
-    ∙ ap (λ (x : ℕ). line_by role p strict guess waits x) k)))
+pub disposition_is : (l : Disposition) (role same_role : Side) (p : Phase) (strict guess waits same_waits : Bool) (n same_number : ℕ) → same_role ≡ role → same_waits ≡ waits
+    → same_number ≡ n → l ≡ disposition_by same_role p strict guess same_waits same_number → disposition_by role p strict guess waits n ≡ l
+disposition_is l role same_role p strict guess waits same_waits n same_number r w k e =
+    sym (e ∙ (ap (λ (x : Side). disposition_by x p strict guess same_waits same_number) r ∙ (ap (λ (x : Bool). disposition_by role p strict guess x same_number) w
+    ∙ ap (λ (x : ℕ). disposition_by role p strict guess waits x) k)))
 
 module _ (role : Side) (p : Phase) (strict guess waits : Bool) (n : ℕ) where
   -- what holds where a packet is dropped, and where its number is unknown
-  dropped : (l : Line) → Sees role p strict guess n l → l ≡ line.Drops → (guess ≡ true) × ((n == 1) ≡ false)
+  dropped : (l : Disposition) → Sees role p strict guess n l → l ≡ disposition.Drops → (guess ≡ true) × ((n == 1) ≡ false)
   dropped l (Closing is e) q = absurd cc
   dropped l (Dropped one due r e) q = (due, one)
   dropped l (OffGuess one due r m e) q = absurd cc
@@ -46,7 +46,7 @@ module _ (role : Side) (p : Phase) (strict guess waits : Bool) (n : ℕ) where
   dropped l (Staying none off h calm e) q = absurd (e q)
   dropped l (Useless none off h e) q = absurd cc
 
-  unknown : (l : Line) → Sees role p strict guess n l → l ≡ line.Unknown → (guess ≡ false) × LeavesNone role n
+  unknown : (l : Disposition) → Sees role p strict guess n l → l ≡ disposition.Unknown → (guess ≡ false) × LeavesNone role n
   unknown l (Closing is e) q = absurd cc
   unknown l (Dropped one due r e) q = absurd cc
   unknown l (OffGuess one due r m e) q = absurd cc
@@ -56,8 +56,8 @@ module _ (role : Side) (p : Phase) (strict guess waits : Bool) (n : ℕ) where
   unknown l (Useless none off h e) q = absurd cc
 
   -- an unknown number has no meaning here
-  meaningless : line_by role p strict guess waits n ≡ line.Unknown → is_unknown n ≡ true
-  unfolding line_by
+  meaningless : disposition_by role p strict guess waits n ≡ disposition.Unknown → is_unknown n ≡ true
+  unfolding disposition_by
   meaningless = elim (cases_Bool (n == 1)) [
     | inl a ↦ rw a (λ e. absurd cc)
     | inr a ↦ rw a (elim (cases_Bool (guess && not (is_ruled p strict))) [
@@ -88,7 +88,7 @@ module _ (role : Side) (p : Phase) (strict guess waits : Bool) (n : ℕ) where
   ]
 
 -- what is taken and isn't too much is within the allowance
-pub taken_within : (l : Line) (over too_much : Bool) → is_taken l ≡ true → too_much ≡ (is_taken l && over) → too_much ≡ false → over ≡ false
+pub taken_within : (l : Disposition) (over too_much : Bool) → is_taken l ≡ true → too_much ≡ (is_taken l && over) → too_much ≡ false → over ≡ false
 taken_within l over too_much taken e none = let same : (is_taken l && over) ≡ over = rw taken refl in sym same ∙ (sym e ∙ none)
 
 -- NEWKEYS isn't unknown, nor is a message of authentication
@@ -107,51 +107,51 @@ not_unknown n e = record {
 }
 
 module _ (setup : Setup) (old new : StateData) (packet : ℕ) (payload before after : List ℕ) where
-  pub reads_brings : line_by setup.role old.phase old.known.strict old.guess (is_waiting old.known.left) (kind payload) ≡ line.Reads
+  pub reads_brings : disposition_by setup.role old.phase old.known.strict old.guess (is_waiting old.known.left) (message_number payload) ≡ disposition.Reads
       → overspends old.known.allowance payload ≡ false
-      → Works setup old new payload before after (read_reply setup old.known (kind payload) (message_in old.known.shares payload))
+      → Works setup old new payload before after (read_reply setup old.known (message_number payload) (message_in old.known.shares payload))
       → Brings setup old new packet payload before after
-  unfolding line_reply
+  unfolding disposition_reply
   reads_brings is within works = rw (is, within) works
 
   -- it fails, so nothing goes on
   fails_works : (f : Fault) → ((strict : Bool) (next : KeysData) → Gives setup.suite setup.config.seed strict next old new before after (fails f)) → Works setup old new payload before after (fails f)
   fails_works f gives = record { gives = gives _ _; moves = λ goes_on. absurd (failed_ends new.end f (gives false (record { cipher = []; mac = []; iv = []; enc = []; mac_key = [] })).ends goes_on) }
 
-  pub deviates_brings : (n : ℕ) → n ≡ kind payload → line_by setup.role old.phase old.known.strict old.guess (is_waiting old.known.left) (kind payload) ≡ line.Deviates
+  pub deviates_brings : (n : ℕ) → n ≡ message_number payload → disposition_by setup.role old.phase old.known.strict old.guess (is_waiting old.known.left) (message_number payload) ≡ disposition.Deviates
       → ((strict : Bool) (next : KeysData) → Gives setup.suite setup.config.seed strict next old new before after (fails (fault.Strict n)))
       → Brings setup old new packet payload before after
-  unfolding line_reply
+  unfolding disposition_reply
   deviates_brings n same is gives = rw (is, ← same) (fails_works (fault.Strict n) gives)
 
-  pub unexpected_brings : (n : ℕ) → n ≡ kind payload → line_by setup.role old.phase old.known.strict old.guess (is_waiting old.known.left) (kind payload) ≡ line.Unexpected
+  pub unexpected_brings : (n : ℕ) → n ≡ message_number payload → disposition_by setup.role old.phase old.known.strict old.guess (is_waiting old.known.left) (message_number payload) ≡ disposition.Unexpected
       → ((strict : Bool) (next : KeysData) → Gives setup.suite setup.config.seed strict next old new before after (fails (fault.Unexpected n)))
       → Brings setup old new packet payload before after
-  unfolding line_reply
+  unfolding disposition_reply
   unexpected_brings n same is gives = rw (is, ← same) (fails_works (fault.Unexpected n) gives)
 
   -- more came that says nothing than is taken
-  pub overspends_brings : (l : Line) → line_by setup.role old.phase old.known.strict old.guess (is_waiting old.known.left) (kind payload) ≡ l
+  pub overspends_brings : (l : Disposition) → disposition_by setup.role old.phase old.known.strict old.guess (is_waiting old.known.left) (message_number payload) ≡ l
       → (is_taken l && overspends old.known.allowance payload) ≡ true
       → ((strict : Bool) (next : KeysData) → Gives setup.suite setup.config.seed strict next old new before after (fails fault.TooMuchIgnored))
       → Brings setup old new packet payload before after
-  unfolding line_reply
-  overspends_brings line.Reads is over gives = rw (is, over) (fails_works fault.TooMuchIgnored gives)
-  overspends_brings line.Unknown is over gives = rw (is, over) (fails_works fault.TooMuchIgnored gives)
-  overspends_brings line.Drops is over gives = absurd (true≢false (sym over))
-  overspends_brings line.Deviates is over gives = absurd (true≢false (sym over))
-  overspends_brings line.Unexpected is over gives = absurd (true≢false (sym over))
+  unfolding disposition_reply
+  overspends_brings disposition.Reads is over gives = rw (is, over) (fails_works fault.TooMuchIgnored gives)
+  overspends_brings disposition.Unknown is over gives = rw (is, over) (fails_works fault.TooMuchIgnored gives)
+  overspends_brings disposition.Drops is over gives = absurd (true≢false (sym over))
+  overspends_brings disposition.Deviates is over gives = absurd (true≢false (sym over))
+  overspends_brings disposition.Unexpected is over gives = absurd (true≢false (sym over))
 
-  pub unknown_brings : line_by setup.role old.phase old.known.strict old.guess (is_waiting old.known.left) (kind payload) ≡ line.Unknown
+  pub unknown_brings : disposition_by setup.role old.phase old.known.strict old.guess (is_waiting old.known.left) (message_number payload) ≡ disposition.Unknown
       → overspends old.known.allowance payload ≡ false
       → ((strict : Bool) (next : KeysData) → Gives setup.suite setup.config.seed strict next old new before after (goes (written_message (Unimplemented packet) ∷ [])))
       → new ≡ record old { known = received_counted old.known payload; sending = new.sending }
       → Brings setup old new packet payload before after
-  unfolding line_reply
+  unfolding disposition_reply
   unknown_brings is within gives stays =
-      let seen = unknown setup.role old.phase old.known.strict old.guess (is_waiting old.known.left) (kind payload) _ (sees setup.role old.phase old.known.strict (is_waiting old.known.left) (kind payload) old.guess) is in
+      let seen = unknown setup.role old.phase old.known.strict old.guess (is_waiting old.known.left) (message_number payload) _ (sees setup.role old.phase old.known.strict (is_waiting old.known.left) (message_number payload) old.guess) is in
       let none : old.guess ≡ false = seen.0 in
-      let other = not_unknown (kind payload) (meaningless setup.role old.phase old.known.strict old.guess (is_waiting old.known.left) (kind payload) is) in
+      let other = not_unknown (message_number payload) (meaningless setup.role old.phase old.known.strict old.guess (is_waiting old.known.left) (message_number payload) is) in
       let works : Works setup old new payload before after (goes (written_message (Unimplemented packet) ∷ [])) = record {
         gives = gives _ _;
         moves = λ goes_on. Stays none seen.1
@@ -166,12 +166,12 @@ module _ (setup : Setup) (old new : StateData) (packet : ℕ) (payload before af
 
 -- the packet of a wrong guess is dropped, and nothing is sent
 pub drops_brings : (setup : Setup) (old new : StateData) (packet : ℕ) (payload before : List ℕ)
-    → line_by setup.role old.phase old.known.strict old.guess (is_waiting old.known.left) (kind payload) ≡ line.Drops → old.end ≡ Open
+    → disposition_by setup.role old.phase old.known.strict old.guess (is_waiting old.known.left) (message_number payload) ≡ disposition.Drops → old.end ≡ Open
     → new ≡ record old { guess = false; known = received_one old.known }
     → Brings setup old new packet payload before before
-unfolding line_reply
+unfolding disposition_reply
 drops_brings setup old new packet payload before is stays next =
-    let seen = dropped setup.role old.phase old.known.strict old.guess (is_waiting old.known.left) (kind payload) _ (sees setup.role old.phase old.known.strict (is_waiting old.known.left) (kind payload) old.guess) is in
+    let seen = dropped setup.role old.phase old.known.strict old.guess (is_waiting old.known.left) (message_number payload) _ (sees setup.role old.phase old.known.strict (is_waiting old.known.left) (message_number payload) old.guess) is in
     let works : Works setup old new payload before before (goes []) = record {
       gives = silent setup.suite setup.config.seed old.known.strict _ old new before Open (ap (λ (k : StateData). k.end) next ∙ stays) (ap (λ (k : StateData). k.sending) next);
       moves = λ goes_on. Drops seen.0 seen.1

@@ -96,7 +96,7 @@ module _ {S D : Type 0} (meaning : S → SuiteData) (policy : D → DecisionsDat
         within = omega arith;
         added = f.added ++ b.added;
         appended = b.appended ∙ ap (λ (x : List ℕ). x ++ b.added) f.appended ∙ append_assoc o0 f.added b.added;
-        follows = λ h s a. broken_as (meaning mid.suite) (meaning old.suite) (policy mid.decisions) (policy old.decisions) mid.role old.role mid.party old.party
+        follows = λ h s a. broken_as (meaning mid.suite) (meaning old.suite) (policy mid.decisions) (policy old.decisions) mid.role old.role mid.config old.config
             ((h ++ take n piece) ++ take b.used (drop n piece)) (h ++ take (n + b.used) piece) ((s ++ f.added) ++ b.added) (s ++ (f.added ++ b.added))
             (ap meaning f.same.same_suite) (ap policy f.same.same_decisions) f.same.same_role f.same.same_config
             (append_assoc h (take n piece) (take b.used (drop n piece)) ∙ ap (λ (x : List ℕ). h ++ x) (sym (take-add n b.used piece)))
@@ -106,30 +106,30 @@ module _ {S D : Type 0} (meaning : S → SuiteData) (policy : D → DecisionsDat
       }
 
   -- a step of what an endpoint keeps is a call that used these bytes
-  pub fed_by : (role : Side) (party : ConfigData) (suite : S) (decisions : D) (i j : Input) (x y : State) (taken before after : List ℕ)
-      → (added : List ℕ) × (after ≡ before ++ added) × Steps (setup_with (meaning suite) (policy decisions) role party) i (state_data x) j (state_data y) taken [] added
-      → Fed meaning policy (record { role = role; party = party; suite = suite; decisions = decisions; input = i; state = x })
-      (record { role = role; party = party; suite = suite; decisions = decisions; input = j; state = y }) taken before after
-  fed_by role party suite decisions i j x y taken before after step = record {
+  pub fed_by : (role : Side) (config : ConfigData) (suite : S) (decisions : D) (i j : Input) (x y : State) (taken before after : List ℕ)
+      → (added : List ℕ) × (after ≡ before ++ added) × Steps (setup_with (meaning suite) (policy decisions) role config) i (state_data x) j (state_data y) taken [] added
+      → Fed meaning policy (record { role = role; config = config; suite = suite; decisions = decisions; input = i; state = x })
+      (record { role = role; config = config; suite = suite; decisions = decisions; input = j; state = y }) taken before after
+  fed_by role config suite decisions i j x y taken before after step = record {
     added = step.0;
     appended = step.1;
     follows = λ h s a. let g = step.2 h s a in
-        subst (λ (l : List ℕ). EndpointStands (setup_with (meaning suite) (policy decisions) role party) (state_data y) j (h ++ taken) (s ++ l)) (sym g.appended) g.stands;
+        subst (λ (l : List ℕ). EndpointStands (setup_with (meaning suite) (policy decisions) role config) (state_data y) j (h ++ taken) (s ++ l)) (sym g.appended) g.stands;
     uncut = λ h s a owned. absurd (true≢false (sym owned ∙ (step.2 h s a).uncut));
     same = record { same_role = refl; same_config = refl; same_suite = refl; same_decisions = refl };
   }
 
   -- what was sent for its owner, at an endpoint that stood open, is a call that ended it
-  pub leaves_by : SentMore → (role : Side) (party : ConfigData) (suite : S) (decisions : D) (i : Input) (x y : State) (reason : ℕ) (description before after : List ℕ) (strict : Bool) (next : KeysData)
-      → end_data x.end ≡ Open → Gives (meaning suite) party.seed strict next (state_data x) (state_data y) before after (disconnects reason description)
-      → Leaves meaning policy (record { role = role; party = party; suite = suite; decisions = decisions; input = i; state = x })
-      (record { role = role; party = party; suite = suite; decisions = decisions; input = i; state = y }) reason description before after
-  leaves_by more role party suite decisions i x y reason description before after strict next is gives = record {
+  pub leaves_by : SentMore → (role : Side) (config : ConfigData) (suite : S) (decisions : D) (i : Input) (x y : State) (reason : ℕ) (description before after : List ℕ) (strict : Bool) (next : KeysData)
+      → end_data x.end ≡ Open → Gives (meaning suite) config.seed strict next (state_data x) (state_data y) before after (disconnects reason description)
+      → Leaves meaning policy (record { role = role; config = config; suite = suite; decisions = decisions; input = i; state = x })
+      (record { role = role; config = config; suite = suite; decisions = decisions; input = i; state = y }) reason description before after
+  leaves_by more role config suite decisions i x y reason description before after strict next is gives = record {
     left = gives.ends;
-    added = sent_from (meaning suite) party.seed strict next (state_data x).sending (parting reason description ∷ []);
+    added = sent_from (meaning suite) config.seed strict next (state_data x).sending (parting reason description ∷ []);
     appended = gives.output;
-    follows = λ h s a. stands_left (setup_with (meaning suite) (policy decisions) role party) (state_data x) i h s is a (state_data y) reason gives.ends;
-    sent = λ h s a. sent_last (setup_with (meaning suite) (policy decisions) role party) (state_data x) i h s is a more reason description strict next;
+    follows = λ h s a. stands_left (setup_with (meaning suite) (policy decisions) role config) (state_data x) i h s is a (state_data y) reason gives.ends;
+    sent = λ h s a. sent_last (setup_with (meaning suite) (policy decisions) role config) (state_data x) i h s is a more reason description strict next;
     same = record { same_role = refl; same_config = refl; same_suite = refl; same_decisions = refl };
   }
 

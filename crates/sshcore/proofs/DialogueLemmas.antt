@@ -80,7 +80,7 @@ module _ {S : Type 0} (meaning : S → SuiteData) where
     kinds : AllByRecursion IsTaken answers
 
   same_setup : (d : DecisionsData) (old new : AskingData S) → IsSameAsking old new → asking_setup meaning d old ≡ asking_setup meaning d new
-  same_setup d old new same = sym (setup_same meaning d old.role new.role old.party new.party old.suite new.suite same.same_role same.same_config same.same_suite)
+  same_setup d old new same = sym (setup_same meaning d old.role new.role old.config new.config old.suite new.suite same.same_role same.same_config same.same_suite)
 
   -- another call
   asked_then : (d : DecisionsData) (old new : AskingData S) → IsSameAsking old new → (g taken : List ℕ) → ((more : List ℕ) → ((r : QuestionData) → asked_by old ≡ Some r → more ≢ []) → (r : QuestionData) → asked_by new ≡ Some r → more ++ taken ≢ [])
@@ -195,7 +195,7 @@ module _ {S : Type 0} (meaning : S → SuiteData) where
         }
 
     holds : (e : AskingData S) (answers : List AnsweredData) (h s : List ℕ) → Dialogue meaning e answers h s → Holds e answers h s
-    holds e answers h s (Makes role party suite new before after made) = record { after = λ d gives. made.begins d; all_asked = λ d gives. tt; rises = tt; kinds = tt }
+    holds e answers h s (Makes role config suite new before after made) = record { after = λ d gives. made.begins d; all_asked = λ d gives. tt; rises = tt; kinds = tt }
     holds e answers h s (Feeds old new given g t taken before after dialogue fed nothing) = holds_fed old new given g t taken before after (holds old given g t dialogue) fed nothing
     holds e answers h s (Answers old new earlier question answer g t before after dialogue packet asks answered) =
         holds_answered old new earlier question answer g t before after (holds old earlier g t dialogue) packet asks answered

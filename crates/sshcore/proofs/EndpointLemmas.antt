@@ -47,9 +47,9 @@ module _ {S D : Type 0} (meaning : S → SuiteData) (policy : D → DecisionsDat
       → History (endpoint_setup meaning policy other) units sizes rest r answers end h s
       → History (endpoint_setup meaning policy one) units sizes rest r answers end h s
   same_history one other same units sizes rest r answers end h s a =
-      subst (λ (v : S). History (setup_with (meaning v) (policy one.decisions) one.role one.party) units sizes rest r answers end h s) same.same_suite
-      (subst (λ (v : D). History (setup_with (meaning other.suite) (policy v) one.role one.party) units sizes rest r answers end h s) same.same_decisions
-      (subst (λ (v : Side). History (setup_with (meaning other.suite) (policy other.decisions) v one.party) units sizes rest r answers end h s) same.same_role
+      subst (λ (v : S). History (setup_with (meaning v) (policy one.decisions) one.role one.config) units sizes rest r answers end h s) same.same_suite
+      (subst (λ (v : D). History (setup_with (meaning other.suite) (policy v) one.role one.config) units sizes rest r answers end h s) same.same_decisions
+      (subst (λ (v : Side). History (setup_with (meaning other.suite) (policy other.decisions) v one.config) units sizes rest r answers end h s) same.same_role
       (subst (λ (v : ConfigData). History (setup_with (meaning other.suite) (policy other.decisions) other.role v) units sizes rest r answers end h s) same.same_config a)))
 
   -- endpoints that were given one input used the same bytes of it, and sent and came to the same by them

@@ -1,4 +1,4 @@
--- What is true of the parties of accepted configs.
+-- What is true of the configs of accepted configs.
 
 use Rattle.std.proofs.Common.{◌≡◌, Bor, ℕ, ◌+◌, ◌<◌, ◌≤◌, Bool, true, false, List, [], ◌∷◌, ◌++◌, ◌||◌, if◌then◌else◌, find, get_or, inl, inr, length, map, Some, None, Option, IfSome, option_map, string_bytes, refl, sym, ap, subst, ◌∙◌, arith, length-append}
 use Rattle.std.specs.List.{AllByRecursion}

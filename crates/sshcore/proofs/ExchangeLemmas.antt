@@ -6,7 +6,7 @@ use Rattle.sshwire.specs.Types.{IsBytes}
 use Rattle.sshwire.specs.declared.share_form.ShareForm.{ShareForm}
 use Rattle.sshwire.specs.declared.share_form.ShareForm.TheVariants.{Hybrid, Mpint, OctetString}
 use Rattle.sshmsg.specs.MessageData.{MessageData, NewKeys, ServiceRequest}
-use Rattle.sshmsg.specs.Numbers.{kind}
+use Rattle.sshmsg.specs.Numbers.{message_number}
 use Rattle.sshmsg.specs.Written.{written_message}
 use Rattle.sshneg.specs.declared.side.Side.{Side}
 use Rattle.sshneg.specs.declared.side.Side.TheVariants.{Client, Server}
@@ -21,7 +21,7 @@ use Rattle.sshpacket.specs.declared.suite.Response.{Response}
 use Rattle.sshpacket.specs.Suite.{FitsShare, FitsShared, ResponseData, SuiteData, response_data}
 use Rattle.sshcore.specs.declared.end.Fault.{Fault}
 use Rattle.sshcore.specs.declared.end.Fault.TheVariants as fault
-use Rattle.sshcore.specs.declared.table.Phase.TheVariants as phase
+use Rattle.sshcore.specs.declared.phase_table.Phase.TheVariants as phase
 use Rattle.sshcore.specs.Brings.{Gives, IsOngoing, StandsAt}
 use Rattle.sshcore.specs.Directions.{spelled_by}
 use Rattle.sshcore.specs.EndData.{EndData, Failed, Open, Reply, fails, goes}
@@ -31,7 +31,7 @@ use Rattle.sshcore.specs.History.{AllFit, FitsPacket}
 use Rattle.sshcore.specs.StateData.{StateData, with_exchange}
 use Rattle.sshcore.specs.Output.{Sending, sending_from, sent_from, with_newkeys, with_packet}
 use Rattle.sshcore.specs.EndpointParts.{ConfigData, DecisionsData, setup_with}
-use Rattle.sshcore.specs.Known.{Known}
+use Rattle.sshcore.specs.KnownBefore.{Known}
 use Rattle.sshcore.specs.Phases.{past_exchange, past_kexinit}
 use Rattle.sshcore.specs.Questions.{SignatureQuestion, exchange_question, init_question}
 use Rattle.sshcore.specs.Signatures.{signature_by}
@@ -100,15 +100,15 @@ pub request_fits : FitsPacket (written_message (ServiceRequest userauth))
 unfolding written_message are_bytes
 request_fits = record { some = omega arith; short = omega arith; bytes = tested_bytes (written_message (ServiceRequest userauth)) refl }
 
-newkeys_kind : (kind (written_message NewKeys) == 21) ≡ true
+newkeys_kind : (message_number (written_message NewKeys) == 21) ≡ true
 unfolding written_message
 newkeys_kind = refl
 
-request_kind : (kind (written_message (ServiceRequest userauth)) == 21) ≡ false
+request_kind : (message_number (written_message (ServiceRequest userauth)) == 21) ≡ false
 unfolding written_message
 request_kind = refl
 
-reply_kind : (form : ShareForm) (host_key share signature : List ℕ) → (kind (written_message (reply_in form host_key share signature)) == 21) ≡ false
+reply_kind : (form : ShareForm) (host_key share signature : List ℕ) → (message_number (written_message (reply_in form host_key share signature)) == 21) ≡ false
 unfolding written_message
 reply_kind Mpint host_key share signature = refl
 reply_kind OctetString host_key share signature = refl
@@ -124,38 +124,38 @@ not_ongoing : (end : EndData) (f : Fault) → end ≡ Failed f → IsOngoing end
 not_ongoing end f e (inl on) = cc
 not_ongoing end f e (inr (a, on)) = cc
 
-module _ (m : SuiteData) (role : Side) (party : ConfigData) (old new : StateData) (before after : List ℕ) (message : MessageData) where
+module _ (m : SuiteData) (role : Side) (config : ConfigData) (old new : StateData) (before after : List ℕ) (message : MessageData) where
   -- by what is hashed and what is replied
-  receives : (x : ExchangeData) (r : Reply) → exchange_of_message m role party old.known message ≡ x
-      → Gives m party.seed old.known.strict (keys_by m old.known.algorithms x role) old new before after r
-      → new.carried ≡ with_exchange party (keys_by m old.known.algorithms x (other role)) x.host_key old.carried
+  receives : (x : ExchangeData) (r : Reply) → exchange_of_message m role config old.known message ≡ x
+      → Gives m config.seed old.known.strict (keys_by m old.known.algorithms x role) old new before after r
+      → new.carried ≡ with_exchange config (keys_by m old.known.algorithms x (other role)) x.host_key old.carried
       → StandsAt new phase.NewKeys old.guess (record old.known { session = exchange_hash m old.known.algorithms.kex x })
-      → ReceivesExchange m role party old new before after message r
+      → ReceivesExchange m role config old new before after message r
   receives x r e gives carries stands = record {
-    gives = subst (λ (y : ExchangeData). Gives m party.seed old.known.strict (keys_by m old.known.algorithms y role) old new before after r) (sym e) gives;
-    carries = λ _. subst (λ (y : ExchangeData). new.carried ≡ with_exchange party (keys_by m old.known.algorithms y (other role)) y.host_key old.carried) (sym e) carries;
+    gives = subst (λ (y : ExchangeData). Gives m config.seed old.known.strict (keys_by m old.known.algorithms y role) old new before after r) (sym e) gives;
+    carries = λ _. subst (λ (y : ExchangeData). new.carried ≡ with_exchange config (keys_by m old.known.algorithms y (other role)) y.host_key old.carried) (sym e) carries;
     stands = λ _. subst (λ (y : ExchangeData). StandsAt new phase.NewKeys old.guess (record old.known { session = exchange_hash m old.known.algorithms.kex y })) (sym e) stands;
   }
 
   -- a failure, whatever is hashed
   receives_failure : (f : Fault) (r : Reply) → r ≡ fails f
-      → ((strict : Bool) (next : KeysData) → Gives m party.seed strict next old new before after (fails f))
-      → ReceivesExchange m role party old new before after message r
+      → ((strict : Bool) (next : KeysData) → Gives m config.seed strict next old new before after (fails f))
+      → ReceivesExchange m role config old new before after message r
   receives_failure f r e gives =
-      let x : ExchangeData = exchange_of_message m role party old.known message in
-      let given : Gives m party.seed old.known.strict (keys_by m old.known.algorithms x role) old new before after (fails f) = gives old.known.strict (keys_by m old.known.algorithms x role) in
+      let x : ExchangeData = exchange_of_message m role config old.known message in
+      let given : Gives m config.seed old.known.strict (keys_by m old.known.algorithms x role) old new before after (fails f) = gives old.known.strict (keys_by m old.known.algorithms x role) in
       record {
-        gives = subst (λ (s : Reply). Gives m party.seed old.known.strict (keys_by m old.known.algorithms x role) old new before after s) (sym e) given;
+        gives = subst (λ (s : Reply). Gives m config.seed old.known.strict (keys_by m old.known.algorithms x role) old new before after s) (sym e) given;
         carries = λ on. absurd (not_ongoing new.end f given.ends on);
         stands = λ on. absurd (not_ongoing new.end f given.ends on);
       }
 
   -- where it goes on it stands after the exchange, with these answers sent
-  receives_on : (x : ExchangeData) (hash : List ℕ) (o : Sending) (answers : Units) → exchange_of_message m role party old.known message ≡ x
-      → hash ≡ exchange_hash m old.known.algorithms.kex x → old.end ≡ Open → StandsAfter m role party old new x.host_key x.shared hash o
-      → after ≡ before ++ sent_from m party.seed old.known.strict (keys_by m old.known.algorithms x role) old.sending answers
+  receives_on : (x : ExchangeData) (hash : List ℕ) (o : Sending) (answers : Units) → exchange_of_message m role config old.known message ≡ x
+      → hash ≡ exchange_hash m old.known.algorithms.kex x → old.end ≡ Open → StandsAfter m role config old new x.host_key x.shared hash o
+      → after ≡ before ++ sent_from m config.seed old.known.strict (keys_by m old.known.algorithms x role) old.sending answers
       → o ≡ sending_from m old.known.strict (keys_by m old.known.algorithms x role) old.sending answers → AllFit answers
-      → ReceivesExchange m role party old new before after message (goes answers)
+      → ReceivesExchange m role config old new before after message (goes answers)
   receives_on x hash o answers e is ongoing stands output sends fits =
       let keys : kex_keys m old.known.algorithms x.shared hash (other role) ≡ keys_by m old.known.algorithms x (other role) =
       ap (λ (h : List ℕ). kex_keys m old.known.algorithms x.shared h (other role)) is ∙ keys_of_exchange m old.known.algorithms x (other role) in
@@ -164,193 +164,193 @@ module _ (m : SuiteData) (role : Side) (party : ConfigData) (old new : StateData
         output = output;
         sends = ap (λ (k : StateData). k.sending) stands.kept ∙ sends;
         fits = fits;
-      }) (ap (λ (k : StateData). k.carried) stands.kept ∙ ap (λ (k : KeysData). with_exchange party k x.host_key old.carried) keys) (record {
+      }) (ap (λ (k : StateData). k.carried) stands.kept ∙ ap (λ (k : KeysData). with_exchange config k x.host_key old.carried) keys) (record {
         phase_is = ap (λ (k : StateData). k.phase) stands.kept;
         guess_is = ap (λ (k : StateData). k.guess) stands.kept;
         known_is = ap (λ (k : StateData). k.known) stands.kept ∙ ap (λ (h : List ℕ). record old.known { session = h }) is;
       })
 
 -- What a server asks at this share: nothing where the suite holds its key, or gives no shared secret; else the signature of what is hashed.
-module _ (m : SuiteData) (party : ConfigData) (known : Known) (message : MessageData) (share : List ℕ) (read : share_read (Ok message) ≡ share) where
-  exchange_of_share : (answer : ResponseData) → m.respond known.algorithms.kex party.random share ≡ Some answer
-      → exchange_with m Server party known.algorithms known.version known.kexinit (Ok message) ≡ exchanged Server party known (server_shares m party known share answer)
+module _ (m : SuiteData) (config : ConfigData) (known : Known) (message : MessageData) (share : List ℕ) (read : share_read (Ok message) ≡ share) where
+  exchange_of_share : (answer : ResponseData) → m.respond known.algorithms.kex config.random share ≡ Some answer
+      → exchange_with m Server config known.algorithms known.version known.kexinit (Ok message) ≡ exchanged Server config known (server_shares m config known share answer)
   unfolding exchange_with exchange_by
   exchange_of_share answer given = rw (read, given) refl
 
-  pub held_asks_none : m.holds known.algorithms.host_key (secret_of party.host_keys known.algorithms.host_key) ≡ true → None ≡ init_question m Server party known message
+  pub held_asks_none : m.holds known.algorithms.host_key (secret_of config.host_keys known.algorithms.host_key) ≡ true → None ≡ init_question m Server config known message
   unfolding init_question
-  held_asks_none held = by (answer_with m Server party known.algorithms (Ok message))
+  held_asks_none held = by (answer_with m Server config known.algorithms (Ok message))
     where
-      by : (o : Option ResponseData) → None ≡ exchange_question m party known (exchange_with m Server party known.algorithms known.version known.kexinit (Ok message)) o
+      by : (o : Option ResponseData) → None ≡ exchange_question m config known (exchange_with m Server config known.algorithms known.version known.kexinit (Ok message)) o
       by None = refl
       by (Some answer) = rw held refl
 
-  pub refused_asks_none : m.respond known.algorithms.kex party.random share ≡ None → None ≡ init_question m Server party known message
+  pub refused_asks_none : m.respond known.algorithms.kex config.random share ≡ None → None ≡ init_question m Server config known message
   unfolding init_question
   refused_asks_none none = rw (read, none) refl
 
-  pub unheld_asks : (role : Side) (answer : ResponseData) → role ≡ Server → m.respond known.algorithms.kex party.random share ≡ Some answer
-      → m.holds known.algorithms.host_key (secret_of party.host_keys known.algorithms.host_key) ≡ false
-      → Some (SignatureQuestion 0 known.algorithms.host_key (m.blob known.algorithms.host_key (secret_of party.host_keys known.algorithms.host_key))
-      (exchange_hash m known.algorithms.kex (exchanged role party known (server_shares m party known share answer)))) ≡ init_question m Server party known message
+  pub unheld_asks : (role : Side) (answer : ResponseData) → role ≡ Server → m.respond known.algorithms.kex config.random share ≡ Some answer
+      → m.holds known.algorithms.host_key (secret_of config.host_keys known.algorithms.host_key) ≡ false
+      → Some (SignatureQuestion 0 known.algorithms.host_key (m.blob known.algorithms.host_key (secret_of config.host_keys known.algorithms.host_key))
+      (exchange_hash m known.algorithms.kex (exchanged role config known (server_shares m config known share answer)))) ≡ init_question m Server config known message
   unfolding init_question
   unheld_asks role answer is given off =
-      let own : init_question m Server party known message ≡ Some (SignatureQuestion 0 known.algorithms.host_key (m.blob known.algorithms.host_key (secret_of party.host_keys known.algorithms.host_key))
-      (exchange_hash m known.algorithms.kex (exchanged Server party known (server_shares m party known share answer)))) = rw (exchange_of_share answer given, read, given, off) refl in
-      ap (λ (r : Side). Some (SignatureQuestion 0 known.algorithms.host_key (m.blob known.algorithms.host_key (secret_of party.host_keys known.algorithms.host_key))
-      (exchange_hash m known.algorithms.kex (exchanged r party known (server_shares m party known share answer))))) is ∙ sym own
+      let own : init_question m Server config known message ≡ Some (SignatureQuestion 0 known.algorithms.host_key (m.blob known.algorithms.host_key (secret_of config.host_keys known.algorithms.host_key))
+      (exchange_hash m known.algorithms.kex (exchanged Server config known (server_shares m config known share answer)))) = rw (exchange_of_share answer given, read, given, off) refl in
+      ap (λ (r : Side). Some (SignatureQuestion 0 known.algorithms.host_key (m.blob known.algorithms.host_key (secret_of config.host_keys known.algorithms.host_key))
+      (exchange_hash m known.algorithms.kex (exchanged r config known (server_shares m config known share answer))))) is ∙ sym own
 
 -- A server, that receives this share.
-module _ (m : SuiteData) (d : DecisionsData) (party : ConfigData) (old new : StateData) (before after : List ℕ) (message : MessageData) (share : List ℕ) (read : share_read (Ok message) ≡ share) where
+module _ (m : SuiteData) (d : DecisionsData) (config : ConfigData) (old new : StateData) (before after : List ℕ) (message : MessageData) (share : List ℕ) (read : share_read (Ok message) ≡ share) where
   -- what it hashes, once it has answered
-  hashed_server : (answer : ResponseData) → m.respond old.known.algorithms.kex party.random share ≡ Some answer
-      → exchange_of_message m Server party old.known message ≡ exchanged Server party old.known (server_shares m party old.known share answer)
+  hashed_server : (answer : ResponseData) → m.respond old.known.algorithms.kex config.random share ≡ Some answer
+      → exchange_of_message m Server config old.known message ≡ exchanged Server config old.known (server_shares m config old.known share answer)
   unfolding exchange_with exchange_by
   hashed_server answer given = rw (read, given) refl
 
   -- the signature of that
   abbrev signature_of : ResponseData → Option (List ℕ)
-  signature_of answer = signature_by m d 0 old.known.algorithms.host_key (secret_of party.host_keys old.known.algorithms.host_key)
-      (exchange_hash m old.known.algorithms.kex (exchanged Server party old.known (server_shares m party old.known share answer)))
+  signature_of answer = signature_by m d 0 old.known.algorithms.host_key (secret_of config.host_keys old.known.algorithms.host_key)
+      (exchange_hash m old.known.algorithms.kex (exchanged Server config old.known (server_shares m config old.known share answer)))
 
   -- and what it replies
-  init_is : (answer : ResponseData) → m.respond old.known.algorithms.kex party.random share ≡ Some answer
-      → init_reply m d Server party old.known message ≡ signed_reply party old.known (exchanged Server party old.known (server_shares m party old.known share answer)) (signature_of answer)
+  init_is : (answer : ResponseData) → m.respond old.known.algorithms.kex config.random share ≡ Some answer
+      → init_reply m d Server config old.known message ≡ signed_reply config old.known (exchanged Server config old.known (server_shares m config old.known share answer)) (signature_of answer)
   unfolding init_reply
   init_is answer given = rw (hashed_server answer given, read, given) refl
 
   -- where there is no shared secret it fails
-  pub init_fails : m.respond old.known.algorithms.kex party.random share ≡ None
-      → ((strict : Bool) (next : KeysData) → Gives m party.seed strict next old new before after (fails fault.Exchange))
-      → ReceivesExchange m Server party old new before after message (init_reply m d Server party old.known message)
+  pub init_fails : m.respond old.known.algorithms.kex config.random share ≡ None
+      → ((strict : Bool) (next : KeysData) → Gives m config.seed strict next old new before after (fails fault.Exchange))
+      → ReceivesExchange m Server config old new before after message (init_reply m d Server config old.known message)
   unfolding init_reply
-  init_fails none gives = receives_failure m Server party old new before after message fault.Exchange (init_reply m d Server party old.known message) (rw (read, none) refl) gives
+  init_fails none gives = receives_failure m Server config old new before after message fault.Exchange (init_reply m d Server config old.known message) (rw (read, none) refl) gives
 
   -- and where there is no signature
-  pub init_unsigned : (role : Side) (answer : ResponseData) → role ≡ Server → m.respond old.known.algorithms.kex party.random share ≡ Some answer
-      → signature_by m d 0 old.known.algorithms.host_key (secret_of party.host_keys old.known.algorithms.host_key)
-      (exchange_hash m old.known.algorithms.kex (exchanged role party old.known (server_shares m party old.known share answer))) ≡ None
-      → ((strict : Bool) (next : KeysData) → Gives m party.seed strict next old new before after (fails fault.Exchange))
-      → ReceivesExchange m Server party old new before after message (init_reply m d Server party old.known message)
+  pub init_unsigned : (role : Side) (answer : ResponseData) → role ≡ Server → m.respond old.known.algorithms.kex config.random share ≡ Some answer
+      → signature_by m d 0 old.known.algorithms.host_key (secret_of config.host_keys old.known.algorithms.host_key)
+      (exchange_hash m old.known.algorithms.kex (exchanged role config old.known (server_shares m config old.known share answer))) ≡ None
+      → ((strict : Bool) (next : KeysData) → Gives m config.seed strict next old new before after (fails fault.Exchange))
+      → ReceivesExchange m Server config old new before after message (init_reply m d Server config old.known message)
   init_unsigned role answer is given none gives =
       let unsigned : signature_of answer ≡ None =
-      subst (λ (r : Side). signature_by m d 0 old.known.algorithms.host_key (secret_of party.host_keys old.known.algorithms.host_key)
-      (exchange_hash m old.known.algorithms.kex (exchanged r party old.known (server_shares m party old.known share answer))) ≡ None) is none in
-      receives_failure m Server party old new before after message fault.Exchange (init_reply m d Server party old.known message)
-      (init_is answer given ∙ ap (signed_reply party old.known (exchanged Server party old.known (server_shares m party old.known share answer))) unsigned) gives
+      subst (λ (r : Side). signature_by m d 0 old.known.algorithms.host_key (secret_of config.host_keys old.known.algorithms.host_key)
+      (exchange_hash m old.known.algorithms.kex (exchanged r config old.known (server_shares m config old.known share answer))) ≡ None) is none in
+      receives_failure m Server config old new before after message fault.Exchange (init_reply m d Server config old.known message)
+      (init_is answer given ∙ ap (signed_reply config old.known (exchanged Server config old.known (server_shares m config old.known share answer))) unsigned) gives
 
   -- else it answers
-  answers_as_server : (answer : ResponseData) (hash host_key reply : List ℕ) → m.respond old.known.algorithms.kex party.random share ≡ Some answer
+  answers_as_server : (answer : ResponseData) (hash host_key reply : List ℕ) → m.respond old.known.algorithms.kex config.random share ≡ Some answer
       → old.end ≡ Open → old.phase ≡ phase.Exchange → HasForm m old
-      → IsSigned m d Server party old.known share answer hash host_key reply → AnswersInit m Server party old new host_key answer.shared hash reply before after
-      → ReceivesExchange m Server party old new before after message (init_reply m d Server party old.known message)
+      → IsSigned m d Server config old.known share answer hash host_key reply → AnswersInit m Server config old new host_key answer.shared hash reply before after
+      → ReceivesExchange m Server config old new before after message (init_reply m d Server config old.known message)
   answers_as_server answer hash host_key reply given ongoing at form signed sent =
       let a : AlgorithmsData = old.known.algorithms in
-      let secret : List ℕ = secret_of party.host_keys a.host_key in
-      let x : ExchangeData = exchanged Server party old.known (server_shares m party old.known share answer) in
+      let secret : List ℕ = secret_of config.host_keys a.host_key in
+      let x : ExchangeData = exchanged Server config old.known (server_shares m config old.known share answer) in
       let next : KeysData = keys_by m a x Server in
       let keys : kex_keys m a answer.shared hash Server ≡ next = ap (λ (h : List ℕ). kex_keys m a answer.shared h Server) signed.hash_is ∙ keys_of_exchange m a x Server in
       let made : signature_of answer ≡ Some signed.signature = ap (signature_by m d 0 a.host_key secret) (sym signed.hash_is) ∙ signed.signed in
       let same : reply ≡ written_message (reply_in old.known.shares x.host_key answer.share signed.signature) =
       signed.reply_is ∙ ap (λ (f : ShareForm). written_message (reply_in f x.host_key answer.share signed.signature)) (sym (form.form (ap past_kexinit at))) in
-      let told : Units = told_by party old.known in
+      let told : Units = told_by config old.known in
       let answers : Units = reply ∷ written_message NewKeys ∷ [] in
-      let is : init_reply m d Server party old.known message ≡ goes (reply ∷ written_message NewKeys ∷ told) =
-      init_is answer given ∙ ap (signed_reply party old.known x) made ∙ ap (λ (p : List ℕ). goes (p ∷ written_message NewKeys ∷ told)) (sym same) in
-      let quiet : (kind reply == 21) ≡ false =
-      ap (λ (p : List ℕ). kind p == 21) signed.reply_is ∙ reply_kind (m.share_form a.kex) x.host_key answer.share signed.signature in
-      let two = sent_two m party.seed old.known.strict next old.sending reply (written_message NewKeys) quiet newkeys_kind (form.clear (ap past_exchange at)) in
-      let all = sent_then m party.seed old.known.strict next old.sending answers told in
+      let is : init_reply m d Server config old.known message ≡ goes (reply ∷ written_message NewKeys ∷ told) =
+      init_is answer given ∙ ap (signed_reply config old.known x) made ∙ ap (λ (p : List ℕ). goes (p ∷ written_message NewKeys ∷ told)) (sym same) in
+      let quiet : (message_number reply == 21) ≡ false =
+      ap (λ (p : List ℕ). message_number p == 21) signed.reply_is ∙ reply_kind (m.share_form a.kex) x.host_key answer.share signed.signature in
+      let two = sent_two m config.seed old.known.strict next old.sending reply (written_message NewKeys) quiet newkeys_kind (form.clear (ap past_exchange at)) in
+      let all = sent_then m config.seed old.known.strict next old.sending answers told in
       let own : KeysData = kex_keys m a answer.shared hash Server in
       let switched : KeysData → Sending = λ k. with_newkeys old.known.strict k (with_packet m reply old.sending) in
       let o : Sending = sending_from m old.known.strict own (switched own) told in
-      let first : List ℕ = spelled_by m old.sending.keys party.seed old.sending.number reply in
-      let second : List ℕ = spelled_by m (with_packet m reply old.sending).keys party.seed (with_packet m reply old.sending).number (written_message NewKeys) in
-      let third : Sending → List ℕ = λ p. sent_from m party.seed old.known.strict next p told in
-      subst (λ (r : Reply). ReceivesExchange m Server party old new before after message r) (sym is)
-      (receives_on m Server party old new before after message x hash o (reply ∷ written_message NewKeys ∷ told) (hashed_server answer given) signed.hash_is ongoing
-      (subst (λ (h : List ℕ). StandsAfter m Server party old new h answer.shared hash o) signed.host_key_is sent.stands)
-      (subst (λ (k : KeysData). after ≡ ((before ++ first) ++ second) ++ sent_from m party.seed old.known.strict k (switched k) told) keys sent.output
+      let first : List ℕ = spelled_by m old.sending.keys config.seed old.sending.number reply in
+      let second : List ℕ = spelled_by m (with_packet m reply old.sending).keys config.seed (with_packet m reply old.sending).number (written_message NewKeys) in
+      let third : Sending → List ℕ = λ p. sent_from m config.seed old.known.strict next p told in
+      subst (λ (r : Reply). ReceivesExchange m Server config old new before after message r) (sym is)
+      (receives_on m Server config old new before after message x hash o (reply ∷ written_message NewKeys ∷ told) (hashed_server answer given) signed.hash_is ongoing
+      (subst (λ (h : List ℕ). StandsAfter m Server config old new h answer.shared hash o) signed.host_key_is sent.stands)
+      (subst (λ (k : KeysData). after ≡ ((before ++ first) ++ second) ++ sent_from m config.seed old.known.strict k (switched k) told) keys sent.output
       ∙ ap (λ (l : List ℕ). l ++ third (switched next)) (append_assoc before first second)
       ∙ append_assoc before (first ++ second) (third (switched next))
       ∙ ap (λ (l : List ℕ). before ++ (l ++ third (switched next))) (sym two.0)
-      ∙ ap (λ (p : Sending). before ++ (sent_from m party.seed old.known.strict next old.sending answers ++ third p)) (sym two.1)
+      ∙ ap (λ (p : Sending). before ++ (sent_from m config.seed old.known.strict next old.sending answers ++ third p)) (sym two.1)
       ∙ ap (λ (l : List ℕ). before ++ l) (sym all.0))
       (ap (λ (k : KeysData). sending_from m old.known.strict k (switched k) told) keys
       ∙ ap (λ (p : Sending). sending_from m old.known.strict next p told) (sym two.1) ∙ sym all.1)
       (fit_both answers told (signed.fits, (newkeys_fits, tt)) sent.fits))
 
   pub init_answers : (role : Side) (answer : ResponseData) (shared hash host_key reply : List ℕ) → role ≡ Server → shared ≡ answer.shared
-      → m.respond old.known.algorithms.kex party.random share ≡ Some answer → old.end ≡ Open → old.phase ≡ phase.Exchange → HasForm m old
-      → IsSigned m d role party old.known share answer hash host_key reply → AnswersInit m role party old new host_key shared hash reply before after
-      → ReceivesExchange m Server party old new before after message (init_reply m d Server party old.known message)
+      → m.respond old.known.algorithms.kex config.random share ≡ Some answer → old.end ≡ Open → old.phase ≡ phase.Exchange → HasForm m old
+      → IsSigned m d role config old.known share answer hash host_key reply → AnswersInit m role config old new host_key shared hash reply before after
+      → ReceivesExchange m Server config old new before after message (init_reply m d Server config old.known message)
   init_answers role answer shared hash host_key reply is same given ongoing at form signed sent =
-      answers_as_server answer hash host_key reply given ongoing at form (subst (λ (r : Side). IsSigned m d r party old.known share answer hash host_key reply) is signed)
-      (subst (λ (l : List ℕ). AnswersInit m Server party old new host_key l hash reply before after) same
-      (subst (λ (r : Side). AnswersInit m r party old new host_key shared hash reply before after) is sent))
+      answers_as_server answer hash host_key reply given ongoing at form (subst (λ (r : Side). IsSigned m d r config old.known share answer hash host_key reply) is signed)
+      (subst (λ (l : List ℕ). AnswersInit m Server config old new host_key l hash reply before after) same
+      (subst (λ (r : Side). AnswersInit m r config old new host_key shared hash reply before after) is sent))
 
 -- A client, that receives this host key and share.
-module _ (m : SuiteData) (d : DecisionsData) (party : ConfigData) (old new : StateData) (before after : List ℕ) (message : MessageData) (host_key share signature : List ℕ)
+module _ (m : SuiteData) (d : DecisionsData) (config : ConfigData) (old new : StateData) (before after : List ℕ) (message : MessageData) (host_key share signature : List ℕ)
     (read : share_read (Ok message) ≡ share) (told : host_key_read (Ok message) ≡ host_key) where
   -- what it hashes, once it has made the shared secret
-  hashed_client : (shared : List ℕ) → m.shared old.known.algorithms.kex party.random share ≡ Some shared
-      → exchange_of_message m Client party old.known message ≡ exchanged Client party old.known (client_shares m party old.known host_key share shared)
+  hashed_client : (shared : List ℕ) → m.shared old.known.algorithms.kex config.random share ≡ Some shared
+      → exchange_of_message m Client config old.known message ≡ exchanged Client config old.known (client_shares m config old.known host_key share shared)
   unfolding exchange_with exchange_by
   hashed_client shared given = rw (read, told, given) refl
 
   -- and what it replies, where it trusts the host key
-  reply_is : (shared : List ℕ) → d.host_key old.known.algorithms.host_key host_key ≡ true → m.shared old.known.algorithms.kex party.random share ≡ Some shared
-      → reply_reply (setup_with m d Client party) old.known message signature
-      ≡ signed_by m old.known (exchanged Client party old.known (client_shares m party old.known host_key share shared)) signature (Some (record { share = share; shared = shared }))
+  reply_is : (shared : List ℕ) → d.host_key old.known.algorithms.host_key host_key ≡ true → m.shared old.known.algorithms.kex config.random share ≡ Some shared
+      → reply_reply (setup_with m d Client config) old.known message signature
+      ≡ signed_by m old.known (exchanged Client config old.known (client_shares m config old.known host_key share shared)) signature (Some (record { share = share; shared = shared }))
   unfolding reply_reply
   reply_is shared trusts given = rw (hashed_client shared given, trusts, read, given) refl
 
   -- it fails where it doesn't trust the host key
   pub reply_distrusts : d.host_key old.known.algorithms.host_key host_key ≡ false
-      → ((strict : Bool) (next : KeysData) → Gives m party.seed strict next old new before after (fails fault.HostKey))
-      → ReceivesExchange m Client party old new before after message (reply_reply (setup_with m d Client party) old.known message signature)
+      → ((strict : Bool) (next : KeysData) → Gives m config.seed strict next old new before after (fails fault.HostKey))
+      → ReceivesExchange m Client config old new before after message (reply_reply (setup_with m d Client config) old.known message signature)
   unfolding reply_reply exchange_with exchange_by
   reply_distrusts off gives =
-      receives_failure m Client party old new before after message fault.HostKey (reply_reply (setup_with m d Client party) old.known message signature) (rw (told, off) refl) gives
+      receives_failure m Client config old new before after message fault.HostKey (reply_reply (setup_with m d Client config) old.known message signature) (rw (told, off) refl) gives
 
   -- and where there is no shared secret
-  pub reply_fails : d.host_key old.known.algorithms.host_key host_key ≡ true → m.shared old.known.algorithms.kex party.random share ≡ None
-      → ((strict : Bool) (next : KeysData) → Gives m party.seed strict next old new before after (fails fault.Exchange))
-      → ReceivesExchange m Client party old new before after message (reply_reply (setup_with m d Client party) old.known message signature)
+  pub reply_fails : d.host_key old.known.algorithms.host_key host_key ≡ true → m.shared old.known.algorithms.kex config.random share ≡ None
+      → ((strict : Bool) (next : KeysData) → Gives m config.seed strict next old new before after (fails fault.Exchange))
+      → ReceivesExchange m Client config old new before after message (reply_reply (setup_with m d Client config) old.known message signature)
   unfolding reply_reply exchange_with exchange_by
   reply_fails trusts none gives =
-      receives_failure m Client party old new before after message fault.Exchange (reply_reply (setup_with m d Client party) old.known message signature) (rw (told, trusts, read, none) refl) gives
+      receives_failure m Client config old new before after message fault.Exchange (reply_reply (setup_with m d Client config) old.known message signature) (rw (told, trusts, read, none) refl) gives
 
   -- else the signature decides
-  judged_as_client : (shared : List ℕ) → d.host_key old.known.algorithms.host_key host_key ≡ true → m.shared old.known.algorithms.kex party.random share ≡ Some shared
+  judged_as_client : (shared : List ℕ) → d.host_key old.known.algorithms.host_key host_key ≡ true → m.shared old.known.algorithms.kex config.random share ≡ Some shared
       → old.end ≡ Open → old.phase ≡ phase.Exchange → HasForm m old
-      → JudgesReply m Client party old new (client_shares m party old.known host_key share shared) signature before after
-      → ReceivesExchange m Client party old new before after message (reply_reply (setup_with m d Client party) old.known message signature)
+      → JudgesReply m Client config old new (client_shares m config old.known host_key share shared) signature before after
+      → ReceivesExchange m Client config old new before after message (reply_reply (setup_with m d Client config) old.known message signature)
   judged_as_client shared trusts given ongoing at form (Refuses off gives) =
-      receives_failure m Client party old new before after message fault.Signature (reply_reply (setup_with m d Client party) old.known message signature)
+      receives_failure m Client config old new before after message fault.Signature (reply_reply (setup_with m d Client config) old.known message signature)
       (reply_is shared trusts given ∙ rw off refl) gives
   judged_as_client shared trusts given ongoing at form (Accepts on sent) =
       let a : AlgorithmsData = old.known.algorithms in
-      let x : ExchangeData = exchanged Client party old.known (client_shares m party old.known host_key share shared) in
+      let x : ExchangeData = exchanged Client config old.known (client_shares m config old.known host_key share shared) in
       let hash : List ℕ = exchange_hash m a.kex x in
       let next : KeysData = keys_by m a x Client in
       let keys : kex_keys m a shared hash Client ≡ next = keys_of_exchange m a x Client in
       let request : List ℕ = written_message (ServiceRequest userauth) in
       let o : Sending = with_newkeys old.known.strict (kex_keys m a shared hash Client) old.sending in
-      let is : reply_reply (setup_with m d Client party) old.known message signature ≡ goes (written_message NewKeys ∷ request ∷ []) = reply_is shared trusts given ∙ rw on refl in
-      let two = sent_switch m party.seed old.known.strict next old.sending (written_message NewKeys) request newkeys_kind request_kind (form.clear (ap past_exchange at)) in
-      subst (λ (r : Reply). ReceivesExchange m Client party old new before after message r) (sym is)
-      (receives_on m Client party old new before after message x hash (with_packet m request o) (written_message NewKeys ∷ request ∷ []) (hashed_client shared given) refl ongoing sent.stands
-      (sent.output ∙ append_assoc before (spelled_by m old.sending.keys party.seed old.sending.number (written_message NewKeys)) (spelled_by m o.keys party.seed o.number request)
+      let is : reply_reply (setup_with m d Client config) old.known message signature ≡ goes (written_message NewKeys ∷ request ∷ []) = reply_is shared trusts given ∙ rw on refl in
+      let two = sent_switch m config.seed old.known.strict next old.sending (written_message NewKeys) request newkeys_kind request_kind (form.clear (ap past_exchange at)) in
+      subst (λ (r : Reply). ReceivesExchange m Client config old new before after message r) (sym is)
+      (receives_on m Client config old new before after message x hash (with_packet m request o) (written_message NewKeys ∷ request ∷ []) (hashed_client shared given) refl ongoing sent.stands
+      (sent.output ∙ append_assoc before (spelled_by m old.sending.keys config.seed old.sending.number (written_message NewKeys)) (spelled_by m o.keys config.seed o.number request)
       ∙ ap (λ (l : List ℕ). before ++ l) (sym two.0))
       (ap (λ (k : KeysData). with_packet m request (with_newkeys old.known.strict k old.sending)) keys ∙ sym two.1)
       (newkeys_fits, (request_fits, tt)))
 
   pub reply_judged : (role : Side) (shared body : List ℕ) → role ≡ Client → shared ≡ body → d.host_key old.known.algorithms.host_key host_key ≡ true
-      → m.shared old.known.algorithms.kex party.random share ≡ Some body → old.end ≡ Open → old.phase ≡ phase.Exchange → HasForm m old
-      → JudgesReply m role party old new (client_shares m party old.known host_key share shared) signature before after
-      → ReceivesExchange m Client party old new before after message (reply_reply (setup_with m d Client party) old.known message signature)
+      → m.shared old.known.algorithms.kex config.random share ≡ Some body → old.end ≡ Open → old.phase ≡ phase.Exchange → HasForm m old
+      → JudgesReply m role config old new (client_shares m config old.known host_key share shared) signature before after
+      → ReceivesExchange m Client config old new before after message (reply_reply (setup_with m d Client config) old.known message signature)
   reply_judged role shared body is same trusts given ongoing at form judged =
       judged_as_client body trusts given ongoing at form
-      (subst (λ (l : List ℕ). JudgesReply m Client party old new (client_shares m party old.known host_key share l) signature before after) same
-      (subst (λ (r : Side). JudgesReply m r party old new (client_shares m party old.known host_key share shared) signature before after) is judged))
+      (subst (λ (l : List ℕ). JudgesReply m Client config old new (client_shares m config old.known host_key share l) signature before after) same
+      (subst (λ (r : Side). JudgesReply m r config old new (client_shares m config old.known host_key share shared) signature before after) is judged))

@@ -4,7 +4,7 @@ use Rattle.std.proofs.Common.{◌≡◌, ℕ, ◌==◌, Bool, true, false, List,
 use Rattle.std.proofs.lemmas.Bool.{eqb-true, true≢false}
 use Rattle.sshwire.specs.Types.{names_body}
 use Rattle.sshmsg.specs.MessageData.{ExtInfo}
-use Rattle.sshmsg.specs.Numbers.{kind}
+use Rattle.sshmsg.specs.Numbers.{message_number}
 use Rattle.sshmsg.specs.Written.{written_message}
 use Rattle.sshmsg.specs.Messages.{message_in}
 use Rattle.sshcore.specs.Work.{asks_for_extensions, extensions_by, server_sig_algs}
@@ -32,6 +32,6 @@ unfolding message_in
 none_asked bytes e = rw e refl
 
 -- it is no NEWKEYS
-pub extensions_quiet : (body : List ℕ) → (kind (written_message (ExtInfo ((server_sig_algs, body) ∷ []))) == 21) ≡ false
+pub extensions_quiet : (body : List ℕ) → (message_number (written_message (ExtInfo ((server_sig_algs, body) ∷ []))) == 21) ≡ false
 unfolding written_message
 extensions_quiet body = refl

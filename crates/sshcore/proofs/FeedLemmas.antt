@@ -2,7 +2,7 @@
 
 use Rattle.std.proofs.Common.{◌≡◌, ◌≢◌, inl, inr, ℕ, ◌+◌, ◌≤◌, ◌==◌, Bool, true, false, cond, List, [], ◌∷◌, ◌++◌, length, take, Option, None, Some, refl, sym, ap, ◌∙◌, subst}
 use Rattle.std.proofs.lemmas.Bool.{cases_Bool, true≢false}
-use Rattle.sshmsg.specs.Numbers.{kind}
+use Rattle.sshmsg.specs.Numbers.{message_number}
 use Rattle.sshmsg.specs.Written.{written_message}
 use Rattle.sshneg.specs.declared.side.Side.{Side}
 use Rattle.sshneg.specs.Markers.{other}
@@ -16,8 +16,8 @@ use Rattle.sshpacket.specs.Suite.{SuiteData, next_keys}
 use Rattle.sshpacket.specs.Written.{after_all}
 use Rattle.sshcore.specs.declared.end.Fault.{Fault}
 use Rattle.sshcore.specs.declared.input.Input.{Input}
-use Rattle.sshcore.specs.declared.table.Phase.{Phase}
-use Rattle.sshcore.specs.declared.table.Phase.TheVariants as phase
+use Rattle.sshcore.specs.declared.phase_table.Phase.{Phase}
+use Rattle.sshcore.specs.declared.phase_table.Phase.TheVariants as phase
 use Rattle.sshcore.specs.Before.{stood, strict_at}
 use Rattle.sshcore.specs.Brings.{Brings, Gives, IsOngoing}
 use Rattle.sshcore.specs.Counting.{is_newkeys, number_in, switched_out}
@@ -27,15 +27,15 @@ use Rattle.sshcore.specs.Exchange.{keys_at, keys_by}
 use Rattle.sshcore.specs.History.{AllFit, History, IsReady}
 use Rattle.sshcore.specs.Inputs.{AsReceived, CutOff, EndpointStands, GoesOn, IsCarried, IsInput, IsInside, Left, StandsSo, pending_at}
 use Rattle.sshcore.specs.StateData.{Carried, StateData, keys_due, keys_left}
-use Rattle.sshcore.specs.Known.{Known}
+use Rattle.sshcore.specs.KnownBefore.{Known}
 use Rattle.sshcore.specs.Output.{Sending, Speaks, sending_from, sent_from}
 use Rattle.sshcore.specs.EndpointParts.{ConfigData, Setup}
 use Rattle.sshcore.specs.Plan.{is_waiting}
 use Rattle.sshcore.specs.Phases.{leaving, past_exchange, past_kexinit}
-use Rattle.sshcore.specs.Replies.{Ends, answers_at, end_at, ended, fault_of, goes_on, line_reply, reply_at}
+use Rattle.sshcore.specs.Replies.{Ends, answers_at, disposition_reply, end_at, ended, fault_of, goes_on, reply_at}
 use Rattle.sshcore.specs.Standing.{Sits, exchange_received}
-use Rattle.sshcore.specs.Table.{line_by}
-use Rattle.sshcore.proofs.Below.{Below}
+use Rattle.sshcore.specs.Table.{disposition_by}
+use Rattle.sshcore.proofs.LawsBelow.{Below}
 use Rattle.sshcore.proofs.HistoryLemmas as history
 use Rattle.sshcore.proofs.HistoryLemmas.{Streams, no_refusal}
 use Rattle.sshcore.proofs.KeyedLemmas.{IsExchangePlace, still_fails, told_at}
@@ -45,16 +45,16 @@ use Rattle.sshcore.proofs.StandingLemmas as standing
 use Rattle.sshcore.proofs.UncutLemmas.{refusal_stays, unit_stays}
 
 -- no NEWKEYS stands among these
-none_anywhere : (b c us : Units) → stands is_newkeys b us ≡ false → EachPlace (λ before a. (kind a == 21) ≡ false) c us
+none_anywhere : (b c us : Units) → stands is_newkeys b us ≡ false → EachPlace (λ before a. (message_number a == 21) ≡ false) c us
 none_anywhere b c [] e = tt
-none_anywhere b c (u ∷ us) e = by (kind u == 21) refl (none_anywhere (b ++ u ∷ []) (c ++ u ∷ []) us) e
+none_anywhere b c (u ∷ us) e = by (message_number u == 21) refl (none_anywhere (b ++ u ∷ []) (c ++ u ∷ []) us) e
   where
-    by : (x : Bool) → (kind u == 21) ≡ x → (stands is_newkeys (b ++ u ∷ []) us ≡ false → EachPlace (λ before a. (kind a == 21) ≡ false) (c ++ u ∷ []) us)
-        → cond x true (stands is_newkeys (b ++ u ∷ []) us) ≡ false → EachPlace (λ before a. (kind a == 21) ≡ false) c (u ∷ us)
+    by : (x : Bool) → (message_number u == 21) ≡ x → (stands is_newkeys (b ++ u ∷ []) us ≡ false → EachPlace (λ before a. (message_number a == 21) ≡ false) (c ++ u ∷ []) us)
+        → cond x true (stands is_newkeys (b ++ u ∷ []) us) ≡ false → EachPlace (λ before a. (message_number a == 21) ≡ false) c (u ∷ us)
     by true f rest g = absurd (true≢false g)
     by false f rest g = (f, rest g)
 
-pub none_sent : (us : Units) → switched_out us ≡ false → EachPlace (λ before a. (kind a == 21) ≡ false) [] us
+pub none_sent : (us : Units) → switched_out us ≡ false → EachPlace (λ before a. (message_number a == 21) ≡ false) [] us
 unfolding switched_out
 none_sent us e = none_anywhere [] [] us e
 
@@ -90,12 +90,12 @@ none_refused setup units r end o (ended before last is stays e shut none) = none
 clear_by : (b : Bool) (k : KeysData) → b ≡ false → cond b (Some k) None ≡ None
 clear_by b k e = rw e refl
 
-pub clear_before : (m : SuiteData) (role : Side) (party : ConfigData) (units answers : Units) (p : Phase) (o : Sending)
-    → stood role party.offer (leaving role phase.Exchange) (payloads_in units) ≡ past_exchange p → Speaks m role party units answers o
-    → (switched_out answers ≡ true → IsReady role party (payloads_in units)) → past_exchange p ≡ false → o.keys ≡ None
-clear_before m role party units answers p o exchange speaks keyed not_past = elim (cases_Bool (switched_out answers)) [
+pub clear_before : (m : SuiteData) (role : Side) (config : ConfigData) (units answers : Units) (p : Phase) (o : Sending)
+    → stood role config.offer (leaving role phase.Exchange) (payloads_in units) ≡ past_exchange p → Speaks m role config units answers o
+    → (switched_out answers ≡ true → IsReady role config (payloads_in units)) → past_exchange p ≡ false → o.keys ≡ None
+clear_before m role config units answers p o exchange speaks keyed not_past = elim (cases_Bool (switched_out answers)) [
   | inl on ↦ absurd (true≢false (sym (keyed on).exchange ∙ exchange ∙ not_past))
-  | inr off ↦ speaks.keys ∙ clear_by (switched_out answers) (after_all m (keys_at m role party (version_in units) (payloads_in units) role) (after_first is_newkeys [] answers)) off
+  | inr off ↦ speaks.keys ∙ clear_by (switched_out answers) (after_all m (keys_at m role config (version_in units) (payloads_in units) role) (after_first is_newkeys [] answers)) off
 ]
 
 clear_at : (setup : Setup) (version : List ℕ) (before : Units) (payload : List ℕ) (last : StateData)
@@ -107,7 +107,7 @@ clear_at setup version before payload last s {units_after} is answers speaks key
     (ap (λ (us : Units). stood setup.role setup.config.offer (leaving setup.role phase.Exchange) (payloads_in us)) is ∙ s.tied.exchange) speaks keyed not_past
 
 -- a DISCONNECT is no NEWKEYS
-quiet_parting : (reason : ℕ) (description : List ℕ) → (kind (parting reason description) == 21) ≡ false
+quiet_parting : (reason : ℕ) (description : List ℕ) → (message_number (parting reason description) == 21) ≡ false
 unfolding written_message
 quiet_parting reason description = refl
 
@@ -210,10 +210,10 @@ module _ (below : Below) (streams : Streams) (setup : Setup) (kept : StateData) 
     sits = subst (λ (us : Units). Sits setup (version_in us) (payloads_in us) kept.phase kept.guess kept.known) units_are within.sits
 
     abbrev reply : Reply
-    reply = line_reply setup kept.known packet (line_by setup.role kept.phase kept.known.strict kept.guess (is_waiting kept.known.left) (kind payload)) payload
+    reply = disposition_reply setup kept.known packet (disposition_by setup.role kept.phase kept.known.strict kept.guess (is_waiting kept.known.left) (message_number payload)) payload
 
     reply_is : reply ≡ reply_at setup version before_units payload
-    reply_is = ap (λ n. line_reply setup kept.known n (line_by setup.role kept.phase kept.known.strict kept.guess (is_waiting kept.known.left) (kind payload)) payload) number
+    reply_is = ap (λ n. disposition_reply setup kept.known n (disposition_by setup.role kept.phase kept.known.strict kept.guess (is_waiting kept.known.left) (message_number payload)) payload) number
         ∙ sym (standing.replies setup version before_units payload kept.phase kept.guess kept.known sits)
 
     answers_are : reply.answers ≡ more

@@ -5,23 +5,23 @@ use Rattle.sshwire.specs.declared.share_form.ShareForm.{ShareForm}
 use Rattle.sshmsg.specs.declared.fault.MsgFault.{MsgFault}
 use Rattle.sshmsg.specs.MessageData.{KexEcdhInit, KexEcdhReply, KexInit, KexdhInit, KexdhReply, MessageData}
 use Rattle.sshmsg.specs.Messages.{message_in}
-use Rattle.sshmsg.specs.Numbers.{kind, number_of}
+use Rattle.sshmsg.specs.Numbers.{message_number, number_of}
 use Rattle.sshneg.specs.declared.side.Side.{Side}
-use Rattle.sshcore.specs.declared.table.Line.{Line}
-use Rattle.sshcore.specs.declared.table.Line.TheVariants as line
-use Rattle.sshcore.specs.declared.table.Phase.TheVariants as phase
-use Rattle.sshcore.specs.Known.{Known}
+use Rattle.sshcore.specs.declared.phase_table.Disposition.{Disposition}
+use Rattle.sshcore.specs.declared.phase_table.Disposition.TheVariants as disposition
+use Rattle.sshcore.specs.declared.phase_table.Phase.TheVariants as phase
+use Rattle.sshcore.specs.KnownBefore.{Known}
 use Rattle.sshcore.specs.EndpointParts.{Setup}
 use Rattle.sshcore.specs.Plan.{is_waiting}
-use Rattle.sshcore.specs.Replies.{allowed, line_reply, read_reply}
-use Rattle.sshcore.specs.Table.{line_by}
+use Rattle.sshcore.specs.Replies.{allowed, disposition_reply, read_reply}
+use Rattle.sshcore.specs.Table.{disposition_by}
 use Rattle.sshcore.specs.Requests.{request_reply}
 use Rattle.sshcore.specs.Work.{kexinit_reply, work}
-use Rattle.sshcore.proofs.Below.{Below}
+use Rattle.sshcore.proofs.LawsBelow.{Below}
 use Rattle.sshcore.proofs.StrictLemmas.{leaving_kexinit}
 use Rattle.sshcore.proofs.TableLemmas.{Closing, Dropped, Leaving, OffGuess, OffPhase, Sees, Staying, Useless, sees}
 
-no_share : (role : Side) (strict : Bool) (n : ℕ) → Sees role phase.KexInit strict false n line.Reads → (n ≢ 30) × (n ≢ 31)
+no_share : (role : Side) (strict : Bool) (n : ℕ) → Sees role phase.KexInit strict false n disposition.Reads → (n ≢ 30) × (n ≢ 31)
 no_share role strict n (Closing one is) = (λ q. omega arith, λ q. omega arith)
 no_share role strict n (Dropped one due r is) = absurd cc
 no_share role strict n (OffGuess one due r out is) = absurd cc
@@ -42,26 +42,26 @@ module _ (below : Below) (setup : Setup) where
   alike_work known form (KexEcdhReply key share signature) a b = absurd (b refl)
   alike_work known form _ a b = refl
 
-  alike_read : (known : Known) (form : ShareForm) (payload : List ℕ) → kind payload ≢ 30 → kind payload ≢ 31
-      → read_reply setup (record known { shares = form }) (kind payload) (message_in form payload) ≡ read_reply setup known (kind payload) (message_in known.shares payload)
+  alike_read : (known : Known) (form : ShareForm) (payload : List ℕ) → message_number payload ≢ 30 → message_number payload ≢ 31
+      → read_reply setup (record known { shares = form }) (message_number payload) (message_in form payload) ≡ read_reply setup known (message_number payload) (message_in known.shares payload)
   alike_read known form payload a b =
-      ap (λ r. read_reply setup (record known { shares = form }) (kind payload) r) (below.alike form known.shares payload a b) ∙ by (message_in known.shares payload) refl
+      ap (λ r. read_reply setup (record known { shares = form }) (message_number payload) r) (below.alike form known.shares payload a b) ∙ by (message_in known.shares payload) refl
     where
-      by : (r : Result MessageData MsgFault) → message_in known.shares payload ≡ r → read_reply setup (record known { shares = form }) (kind payload) r ≡ read_reply setup known (kind payload) r
+      by : (r : Result MessageData MsgFault) → message_in known.shares payload ≡ r → read_reply setup (record known { shares = form }) (message_number payload) r ≡ read_reply setup known (message_number payload) r
       by (Ok c) e = let is = below.numbers known.shares payload c e in alike_work known form c (λ q. a (is ∙ q)) (λ q. b (is ∙ q))
       by (Err f) e = refl
 
-  alike_line : (known : Known) (packet : ℕ) (payload : List ℕ) (form : ShareForm) (strict : Bool) (l : Line) → Sees setup.role phase.KexInit strict false (kind payload) l
-      → line_reply setup (record known { shares = form }) packet l payload ≡ line_reply setup known packet l payload
-  unfolding line_reply
-  alike_line known packet payload form strict line.Reads s = let two = no_share setup.role strict (kind payload) s in ap (allowed known payload) (alike_read known form payload two.0 two.1)
-  alike_line known packet payload form strict line.Drops s = refl
-  alike_line known packet payload form strict line.Deviates s = refl
-  alike_line known packet payload form strict line.Unknown s = refl
-  alike_line known packet payload form strict line.Unexpected s = refl
+  alike_disposition : (known : Known) (packet : ℕ) (payload : List ℕ) (form : ShareForm) (strict : Bool) (l : Disposition) → Sees setup.role phase.KexInit strict false (message_number payload) l
+      → disposition_reply setup (record known { shares = form }) packet l payload ≡ disposition_reply setup known packet l payload
+  unfolding disposition_reply
+  alike_disposition known packet payload form strict disposition.Reads s = let two = no_share setup.role strict (message_number payload) s in ap (allowed known payload) (alike_read known form payload two.0 two.1)
+  alike_disposition known packet payload form strict disposition.Drops s = refl
+  alike_disposition known packet payload form strict disposition.Deviates s = refl
+  alike_disposition known packet payload form strict disposition.Unknown s = refl
+  alike_disposition known packet payload form strict disposition.Unexpected s = refl
 
   pub formless : (known : Known) (packet : ℕ) (payload : List ℕ) (form : ShareForm)
-      → line_reply setup (record known { shares = form }) packet (line_by setup.role phase.KexInit known.strict false (is_waiting known.left) (kind payload)) payload
-      ≡ line_reply setup known packet (line_by setup.role phase.KexInit known.strict false (is_waiting known.left) (kind payload)) payload
+      → disposition_reply setup (record known { shares = form }) packet (disposition_by setup.role phase.KexInit known.strict false (is_waiting known.left) (message_number payload)) payload
+      ≡ disposition_reply setup known packet (disposition_by setup.role phase.KexInit known.strict false (is_waiting known.left) (message_number payload)) payload
   formless known packet payload form =
-      alike_line known packet payload form known.strict (line_by setup.role phase.KexInit known.strict false (is_waiting known.left) (kind payload)) (sees setup.role phase.KexInit known.strict (is_waiting known.left) (kind payload) false)
+      alike_disposition known packet payload form known.strict (disposition_by setup.role phase.KexInit known.strict false (is_waiting known.left) (message_number payload)) (sees setup.role phase.KexInit known.strict (is_waiting known.left) (message_number payload) false)

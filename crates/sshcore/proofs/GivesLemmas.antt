@@ -2,7 +2,7 @@
 
 use Rattle.std.proofs.Common.{◌≡◌, ℕ, ◌==◌, Bool, false, List, [], ◌∷◌, ◌++◌, refl, sym, ap, subst, ◌∙◌, append_assoc, OnOk, Result, Ok, Err}
 use Rattle.std.proofs.lemmas.List.{append-nil}
-use Rattle.sshmsg.specs.Numbers.{kind}
+use Rattle.sshmsg.specs.Numbers.{message_number}
 use Rattle.sshpacket.specs.KeysData.{KeysData}
 use Rattle.sshpacket.specs.Stream.{Units}
 use Rattle.sshpacket.specs.Suite.{SuiteData}
@@ -11,7 +11,7 @@ use Rattle.sshcore.specs.Directions.{spelled_by}
 use Rattle.sshcore.specs.EndData.{EndData, Reply}
 use Rattle.sshcore.specs.History.{FitsPacket}
 use Rattle.sshcore.specs.StateData.{StateData}
-use Rattle.sshcore.specs.Made.{IsMade}
+use Rattle.sshcore.specs.MadePayloads.{IsMade}
 use Rattle.sshcore.specs.Output.{Sending, after_sending, sending_from, sent_from, with_packet}
 use Rattle.sshcore.specs.EndpointParts.{ConfigData}
 use Rattle.sshcore.specs.Work.{init_for}
@@ -25,8 +25,8 @@ on_both (Ok x) p q f = f p q
 on_both (Err e) p q f = tt
 
 -- a client's share is no NEWKEYS
-pub quiet_init : (m : SuiteData) (party : ConfigData) (kex : List ℕ) → (kind (init_for m party kex) == 21) ≡ false
-quiet_init m party kex = ap (λ (n : ℕ). n == 21) (init_kind (m.share_form kex) (m.share kex party.random))
+pub quiet_init : (m : SuiteData) (config : ConfigData) (kex : List ℕ) → (message_number (init_for m config kex) == 21) ≡ false
+quiet_init m config kex = ap (λ (n : ℕ). n == 21) (init_kind (m.share_form kex) (m.share kex config.random))
 
 module _ (m : SuiteData) (seed : List ℕ) (strict : Bool) (next : KeysData) where
   -- nothing is sent, and no packet is counted
@@ -59,7 +59,7 @@ module _ (m : SuiteData) (seed : List ℕ) (strict : Bool) (next : KeysData) whe
   }
 
   -- one answer that was made and sent, which is no NEWKEYS
-  pub gives_one : (old new : StateData) (before after payload made bytes : List ℕ) (end : EndData) → (kind payload == 21) ≡ false → IsMade payload made → bytes ≡ made → old.end ≡ end
+  pub gives_one : (old new : StateData) (before after payload made bytes : List ℕ) (end : EndData) → (message_number payload == 21) ≡ false → IsMade payload made → bytes ≡ made → old.end ≡ end
       → after ≡ before ++ spelled_by m old.sending.keys seed old.sending.number bytes → new ≡ record old { sending = with_packet m bytes old.sending }
       → Gives m seed strict next old new before after (record { answers = payload ∷ []; end = end })
   gives_one old new before after payload made bytes end quiet is same ends output keeps =

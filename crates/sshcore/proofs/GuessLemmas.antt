@@ -6,7 +6,7 @@ use Rattle.sshwire.specs.declared.share_form.ShareForm.TheVariants.{Mpint}
 use Rattle.sshmsg.specs.declared.fault.MsgFault.{MsgFault}
 use Rattle.sshmsg.specs.MessageData.{KexInit, KexInitData, MessageData}
 use Rattle.sshmsg.specs.Messages.{message_in}
-use Rattle.sshmsg.specs.Numbers.{kind}
+use Rattle.sshmsg.specs.Numbers.{message_number}
 use Rattle.sshneg.specs.declared.side.Side.{Side}
 use Rattle.sshneg.specs.ExchangeEnd.{offer_by, offer_in}
 use Rattle.sshpacket.specs.Places.{after_first, first_where, stands}
@@ -17,7 +17,7 @@ use Rattle.sshcore.specs.Before.{expects_guess, is_kexinit, kexinit, offered, pe
 use Rattle.sshcore.specs.Exchange.{choice_with, shares_at, shares_by}
 use Rattle.sshcore.specs.EndpointParts.{ConfigData}
 use Rattle.sshcore.specs.StrictSequence.{HasNumber, IsWrongGuess}
-use Rattle.sshcore.proofs.Below.{Below}
+use Rattle.sshcore.proofs.LawsBelow.{Below}
 use Rattle.sshcore.proofs.PhaseLemmas.{kexinit_push, offered_push}
 
 not_true : (b : Bool) → not b ≡ true → b ≡ false
@@ -71,13 +71,13 @@ pub none_due : (role : Side) (own : KexInitData) (before : Units) → offered be
 unfolding expects_guess
 none_due role own before none = rw none refl
 
-pub none_chosen : (m : SuiteData) (role : Side) (party : ConfigData) (before : Units) → offered before ≡ false → shares_at m role party before ≡ Mpint
-none_chosen m role party before none = ap (λ (peer : Option KexInitData). shares_by m (choice_with m role party.offer peer)) (none_offered before none)
+pub none_chosen : (m : SuiteData) (role : Side) (config : ConfigData) (before : Units) → offered before ≡ false → shares_at m role config before ≡ Mpint
+none_chosen m role config before none = ap (λ (peer : Option KexInitData). shares_by m (choice_with m role config.offer peer)) (none_offered before none)
 
 -- the first KEXINIT
-pub first_kexinit : (before : Units) (payload : List ℕ) → offered before ≡ false → kind payload ≡ 20 → kexinit (before ++ payload ∷ []) ≡ payload
+pub first_kexinit : (before : Units) (payload : List ℕ) → offered before ≡ false → message_number payload ≡ 20 → kexinit (before ++ payload ∷ []) ≡ payload
 first_kexinit before payload none is =
-    let e : (kind payload == 20) ≡ true = eq-eqb (kind payload) 20 is in
+    let e : (message_number payload == 20) ≡ true = eq-eqb (message_number payload) 20 is in
     kexinit_push before payload ∙ rw (none, e) refl
 
 none_since : (before : Units) (payload : List ℕ) → offered before ≡ false → since_offer (before ++ payload ∷ []) ≡ 0
@@ -86,27 +86,27 @@ none_since before payload none =
     let same : after_first is_kexinit [] (before ++ payload ∷ []) ≡ [] = after-push is_kexinit [] before payload ∙ rw none refl in
     ap (λ (l : Units). length l) same
 
-pub first_guess : (role : Side) (own : KexInitData) (before : Units) (payload : List ℕ) → offered before ≡ false → kind payload ≡ 20
+pub first_guess : (role : Side) (own : KexInitData) (before : Units) (payload : List ℕ) → offered before ≡ false → message_number payload ≡ 20
     → expects_guess role own (before ++ payload ∷ []) ≡ wrong_guess role own (offer_in payload)
 unfolding expects_guess
 first_guess role own before payload none is =
-    let e : (kind payload == 20) ≡ true = eq-eqb (kind payload) 20 is in
+    let e : (message_number payload == 20) ≡ true = eq-eqb (message_number payload) 20 is in
     let on : offered (before ++ payload ∷ []) ≡ true = offered_push before payload ∙ rw (none, e) refl in
     rw (on, none_since before payload none) (ap (λ (k : List ℕ). wrong_guess role own (offer_in k)) (first_kexinit before payload none is))
 
 -- strictness once the KEXINIT has stood, and with it
-pub strict_push : (role : Side) (party : ConfigData) (before : Units) (payload : List ℕ) → offered before ≡ true → strict_at role party (before ++ payload ∷ []) ≡ strict_at role party before
-strict_push role party before payload is = ap (λ (k : List ℕ). strict_towards role party.strict (offer_in k)) (kexinit_push before payload ∙ rw is refl)
+pub strict_push : (role : Side) (config : ConfigData) (before : Units) (payload : List ℕ) → offered before ≡ true → strict_at role config (before ++ payload ∷ []) ≡ strict_at role config before
+strict_push role config before payload is = ap (λ (k : List ℕ). strict_towards role config.strict (offer_in k)) (kexinit_push before payload ∙ rw is refl)
 
-pub strict_none : (role : Side) (party : ConfigData) (before : Units) (payload : List ℕ) → offered before ≡ false → (kind payload == 20) ≡ false → strict_at role party (before ++ payload ∷ []) ≡ false
+pub strict_none : (role : Side) (config : ConfigData) (before : Units) (payload : List ℕ) → offered before ≡ false → (message_number payload == 20) ≡ false → strict_at role config (before ++ payload ∷ []) ≡ false
 unfolding message_in
-strict_none role party before payload none other_kind =
+strict_none role config before payload none other_kind =
     let e : kexinit (before ++ payload ∷ []) ≡ [] = kexinit_push before payload ∙ rw (none, other_kind) refl in
-    ap (λ (k : List ℕ). strict_towards role party.strict (offer_in k)) e
+    ap (λ (k : List ℕ). strict_towards role config.strict (offer_in k)) e
 
-pub strict_first : (role : Side) (party : ConfigData) (before : Units) (payload : List ℕ) → offered before ≡ false → kind payload ≡ 20
-    → strict_at role party (before ++ payload ∷ []) ≡ strict_towards role party.strict (offer_in payload)
-strict_first role party before payload none is = ap (λ (k : List ℕ). strict_towards role party.strict (offer_in k)) (first_kexinit before payload none is)
+pub strict_first : (role : Side) (config : ConfigData) (before : Units) (payload : List ℕ) → offered before ≡ false → message_number payload ≡ 20
+    → strict_at role config (before ++ payload ∷ []) ≡ strict_towards role config.strict (offer_in payload)
+strict_first role config before payload none is = ap (λ (k : List ℕ). strict_towards role config.strict (offer_in k)) (first_kexinit before payload none is)
 
 -- a payload with a marker is a KEXINIT
 shown_by : (role : Side) (flag : Bool) (r : Option KexInitData) → strict_towards role flag r ≡ true → (peer : KexInitData) × (r ≡ Some peer)
@@ -128,6 +128,6 @@ read_offer payload peer e = read_by (message_in Mpint payload) peer e
 pub offer_is : (payload : List ℕ) (peer : KexInitData) → message_in Mpint payload ≡ Ok (KexInit peer) → offer_in payload ≡ Some peer
 offer_is payload peer e = ap offer_by e
 
-pub has_number : (payload : List ℕ) (n : ℕ) → kind payload ≡ n → 0 < n → HasNumber n payload
+pub has_number : (payload : List ℕ) (n : ℕ) → message_number payload ≡ n → 0 < n → HasNumber n payload
 has_number [] n e some = absurd (omega arith)
 has_number (b ∷ fields) n e some = record { fields = fields; payload_is = ap (λ (k : ℕ). k ∷ fields) e }

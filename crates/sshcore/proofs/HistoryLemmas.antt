@@ -12,7 +12,7 @@ use Rattle.sshpacket.specs.Stream.{IsIncremental, Parsers, Read, Received, Same,
 use Rattle.sshpacket.specs.Suite.{SuiteData}
 use Rattle.sshpacket.proofs.Places.{each-append, each-push, flat-push}
 use Rattle.sshcore.specs.declared.end.Fault.{Fault}
-use Rattle.sshcore.specs.declared.table.Phase.TheVariants as phase
+use Rattle.sshcore.specs.declared.phase_table.Phase.TheVariants as phase
 use Rattle.sshcore.specs.Counting.{switched_out}
 use Rattle.sshcore.specs.Directions.{form_of, others_of, parsers, payloads_in, protection_in, spells}
 use Rattle.sshcore.specs.EndData.{Authenticated, Closed, Disconnected, EndData, Failed, Open, disconnect}
@@ -20,7 +20,7 @@ use Rattle.sshcore.specs.History.{AllFit, BrokenOff, FitsPacket, History, IsRead
 use Rattle.sshcore.specs.EndpointParts.{ConfigData, Setup}
 use Rattle.sshcore.specs.Replies.{Ends, Replies, StaysOpen, answers_at, end_at, ended, fault_of, goes_on, refusal_reply}
 use Rattle.sshcore.specs.Work.{making}
-use Rattle.sshcore.proofs.Below.{Below}
+use Rattle.sshcore.proofs.LawsBelow.{Below}
 use Rattle.sshcore.proofs.KeyedLemmas.{keyed, still_fails, still_making}
 use Rattle.sshcore.proofs.StreamLemmas.{ready_units, sent_stays, switched_append}
 use Rattle.sshcore.proofs.StrictLaws.{begun_none, stands}
@@ -66,10 +66,10 @@ is_open (Failed f) = inr (λ e. absurd cc)
 is_open (Closed reason) = inr (λ e. absurd cc)
 is_open (Disconnected reason) = inr (λ e. absurd cc)
 
-module _ (streams : Streams) (m : SuiteData) (role : Side) (party : ConfigData) where
-  pub each : (us : Units) (ns : List ℕ) → IsIncremental (parsers m role party us ns)
-  each [] ns = streams.lines (form_of party.reading role) (others_of role)
-  each (version ∷ before) ns = streams.packets (protection_in m role party version before ns)
+module _ (streams : Streams) (m : SuiteData) (role : Side) (config : ConfigData) where
+  pub each : (us : Units) (ns : List ℕ) → IsIncremental (parsers m role config us ns)
+  each [] ns = streams.lines (form_of config.reading role) (others_of role)
+  each (version ∷ before) ns = streams.packets (protection_in m role config version before ns)
 
 module _ (below : Below) (streams : Streams) (setup : Setup) where
   open_stays : (units : Units) (r : Option Refusal) (end : EndData) → end ≡ Open → Ends setup units r end → StaysOpen setup units

@@ -17,19 +17,19 @@ use Rattle.sshcore.specs.RecordData.{held_in}
 use Rattle.sshcore.specs.RecordHolding.{IsHolding}
 use Rattle.sshcore.specs.RecordText.{FitsReader, IsShort, body_text, record_bytes, waits_text}
 use Rattle.sshcore.proofs.AskedNothing.{asked_none}
-use Rattle.sshcore.proofs.Below.{Below}
+use Rattle.sshcore.proofs.LawsBelow.{Below}
 use Rattle.sshcore.proofs.HistoryLemmas.{Streams}
 use Rattle.sshcore.proofs.ReadLemmas.{packets_held}
 
-module _ {S : Type 0} (below : Below) (streams : Streams) (meaning : S → SuiteData) (role : Side) (party : ConfigData) (suite : S) (piece new : List ℕ) (base : PausedData S) where
+module _ {S : Type 0} (below : Below) (streams : Streams) (meaning : S → SuiteData) (role : Side) (config : ConfigData) (suite : S) (piece new : List ℕ) (base : PausedData S) where
   -- with this reader, and where this packet waits
   abbrev pub with_input : Input → Option WaitingData → PausedData S
   with_input i w = record base { input = i; waiting = w }
 
-  holding_at : (i : Input) (w : Option WaitingData) (text : List ℕ) → IsRecordOf text (with_input i w) → FitsPaused meaning role party suite (with_input i w)
+  holding_at : (i : Input) (w : Option WaitingData) (text : List ℕ) → IsRecordOf text (with_input i w) → FitsPaused meaning role config suite (with_input i w)
       → length piece < (record_of (with_input i w)).missing
       → new ≡ waits_text ((record_of (with_input i w)).missing - length piece) (held_in (record_of (with_input i w)).reader ++ piece) (body_text (record_of (with_input i w)) [])
-      → IsShort (held_in (record_of (with_input i w)).reader ++ piece) → length new ≤ RECORD_LIMIT → IsHolding meaning role party suite piece new (with_input i w)
+      → IsShort (held_in (record_of (with_input i w)).reader ++ piece) → length new ≤ RECORD_LIMIT → IsHolding meaning role config suite piece new (with_input i w)
   holding_at (input.Lines r) None text is fits few new_is short limit = absurd (omega arith)
   holding_at i (Some w) text is fits few new_is short limit = absurd (omega arith)
   holding_at (input.Packets r) None text is fits few new_is short limit =
@@ -39,7 +39,7 @@ module _ {S : Type 0} (below : Below) (streams : Streams) (meaning : S → Suite
       let more : packet_reader_data q ≡ record (packet_reader_data r) { held = (packet_reader_data r).held ++ piece } = wait.holding_more m r piece waits few in
       let fewer : missing_of q ≡ missing_of r - length piece = wait.holding_fewer m r piece waits few in
       let low : missing_of r < 2 ^ 32 = is.written.missing in
-      let kept = kept_by party base in
+      let kept = kept_by config base in
       record {
         endpoint = with_input (input.Packets q) None;
         is_record = record {
@@ -76,7 +76,7 @@ module _ {S : Type 0} (below : Below) (streams : Streams) (meaning : S → Suite
           fits = record { reads = λ ongoing. wait.holding_waits m r piece waits few; asked = tt; keeps = fits.fits.keeps };
         };
         after = λ d h s a.
-            let setup = setup_with m d role party in
+            let setup = setup_with m d role config in
             let stands = subst (λ (x : Input). EndpointStands setup kept x h s) a.unread.0 (subst (λ (x : List ℕ). EndpointStands setup kept a.reader x s) a.unread.1 a.stands) in
             record {
               earlier = h ++ piece;
@@ -88,11 +88,11 @@ module _ {S : Type 0} (below : Below) (streams : Streams) (meaning : S → Suite
       }
 
 -- of the record of an endpoint
-pub holding_so : {S : Type 0} → Below → Streams → (meaning : S → SuiteData) (role : Side) (party : ConfigData) (suite : S) (piece new : List ℕ) (p : PausedData S) (text : List ℕ) → IsRecordOf text p → FitsPaused meaning role party suite p
+pub holding_so : {S : Type 0} → Below → Streams → (meaning : S → SuiteData) (role : Side) (config : ConfigData) (suite : S) (piece new : List ℕ) (p : PausedData S) (text : List ℕ) → IsRecordOf text p → FitsPaused meaning role config suite p
     → length piece < (record_of p).missing → new ≡ waits_text ((record_of p).missing - length piece) (held_in (record_of p).reader ++ piece) (body_text (record_of p) [])
-    → IsShort (held_in (record_of p).reader ++ piece) → length new ≤ RECORD_LIMIT → IsHolding meaning role party suite piece new p
-holding_so below streams meaning role party suite piece new p text is fits few new_is short limit =
-    holding_at below streams meaning role party suite piece new p p.input p.waiting text is fits few new_is short limit
+    → IsShort (held_in (record_of p).reader ++ piece) → length new ≤ RECORD_LIMIT → IsHolding meaning role config suite piece new p
+holding_so below streams meaning role config suite piece new p text is fits few new_is short limit =
+    holding_at below streams meaning role config suite piece new p p.input p.waiting text is fits few new_is short limit
 
 -- the same front
 pub same_waits : (n m : ℕ) (a b : List ℕ) (x y : List ℕ) → n ≡ m → a ≡ b → x ≡ y → waits_text n a x ≡ waits_text m b y

@@ -6,19 +6,19 @@ use Rattle.std.proofs.lemmas.Bool.{cases_Bool, eq-eqb, true≢false}
 use Rattle.std.proofs.lemmas.List.{append-nil, append_assoc}
 use Rattle.std.proofs.lemmas.List.Sums.{sum_by_push}
 use Rattle.sshmsg.specs.MessageData.{KexInitData}
-use Rattle.sshmsg.specs.Numbers.{kind}
+use Rattle.sshmsg.specs.Numbers.{message_number}
 use Rattle.sshneg.specs.declared.side.Side.{Side}
 use Rattle.sshneg.specs.declared.side.Side.TheVariants.{Client, Server}
 use Rattle.sshpacket.specs.Places.{flat_places}
 use Rattle.sshpacket.specs.Stream.{Units}
 use Rattle.sshpacket.proofs.Places.{flat-push, prefix-append, stands-prefix}
 use Rattle.sshcore.specs.declared.end.Fault.TheVariants as fault
-use Rattle.sshcore.specs.declared.table.Phase.TheVariants as phase
+use Rattle.sshcore.specs.declared.phase_table.Phase.TheVariants as phase
 use Rattle.sshcore.specs.IgnoredLimit.{allowance_after, allowance_at, cost, costs, counts, less, overspends}
 use Rattle.sshcore.specs.Before.{dropped, expects_guess, kept, stood}
 use Rattle.sshcore.specs.EndData.{Reply, fails}
 use Rattle.sshcore.specs.EndpointParts.{ConfigData}
-use Rattle.sshcore.specs.Known.{Known}
+use Rattle.sshcore.specs.KnownBefore.{Known}
 use Rattle.sshcore.specs.Phases.{leaving}
 use Rattle.sshcore.specs.Replies.{allowed}
 use Rattle.sshcore.specs.Table.{is_ignorable}
@@ -37,10 +37,10 @@ by_allowance P known payload r too_much within = by (overspends known.allowance 
     by false = within
 
 -- what says something is answered so, whatever is allowed
-pub always_allowed : (known : Known) (payload : List ℕ) (r : Reply) → is_ignorable (kind payload) ≡ false → allowed known payload r ≡ r
+pub always_allowed : (known : Known) (payload : List ℕ) (r : Reply) → is_ignorable (message_number payload) ≡ false → allowed known payload r ≡ r
 always_allowed known payload r heeded = rw heeded refl
 
-pub allowed_number : (known : Known) (payload : List ℕ) (r : Reply) (n : ℕ) → kind payload ≡ n → is_ignorable n ≡ false → allowed known payload r ≡ r
+pub allowed_number : (known : Known) (payload : List ℕ) (r : Reply) (n : ℕ) → message_number payload ≡ n → is_ignorable n ≡ false → allowed known payload r ≡ r
 allowed_number known payload r n is heeded = always_allowed known payload r (ap is_ignorable is ∙ heeded)
 
 -- the exchange message says something
@@ -78,73 +78,73 @@ module _ (role : Side) (own : KexInitData) where
   unfolding costs
   costs_none before none = places_none [] before none
 
-module _ (role : Side) (party : ConfigData) (before : Units) (payload : List ℕ) where
+module _ (role : Side) (config : ConfigData) (before : Units) (payload : List ℕ) where
   abbrev by_parts : Bool → List ℕ → Option ℕ
-  by_parts switched xs = cond switched (less party.ignored_limit (sum xs)) None
+  by_parts switched xs = cond switched (less config.ignored_limit (sum xs)) None
 
   -- what doesn't count and is no NEWKEYS
-  uncounted : kept role party.offer 21 before payload ≡ false → counts role party.offer before payload ≡ false
-      → allowance_at role party (before ++ payload ∷ []) ≡ allowance_at role party before
-  uncounted other none = ap (λ (b : Bool). by_parts b (costs role party.offer (before ++ payload ∷ []))) stood_same ∙ ap (λ (xs : List ℕ). by_parts (stood role party.offer 21 before) xs) costs_same
+  uncounted : kept role config.offer 21 before payload ≡ false → counts role config.offer before payload ≡ false
+      → allowance_at role config (before ++ payload ∷ []) ≡ allowance_at role config before
+  uncounted other none = ap (λ (b : Bool). by_parts b (costs role config.offer (before ++ payload ∷ []))) stood_same ∙ ap (λ (xs : List ℕ). by_parts (stood role config.offer 21 before) xs) costs_same
     where
-      costs_same : costs role party.offer (before ++ payload ∷ []) ≡ costs role party.offer before
-      costs_same = costs_push role party.offer before payload ∙ rw none (append-nil (costs role party.offer before))
+      costs_same : costs role config.offer (before ++ payload ∷ []) ≡ costs role config.offer before
+      costs_same = costs_push role config.offer before payload ∙ rw none (append-nil (costs role config.offer before))
 
       by : (b : Bool) → cond b true false ≡ b
       by true = refl
       by false = refl
 
-      stood_same : stood role party.offer 21 (before ++ payload ∷ []) ≡ stood role party.offer 21 before
-      stood_same = stood_push role party.offer before payload 21 ∙ rw other (by (stood role party.offer 21 before))
+      stood_same : stood role config.offer 21 (before ++ payload ∷ []) ≡ stood role config.offer 21 before
+      stood_same = stood_push role config.offer before payload 21 ∙ rw other (by (stood role config.offer 21 before))
 
   -- a payload that is dropped, and one that says something
-  pub allowance_dropped : ((k : ℕ) → kept role party.offer k before payload ≡ false)
-      → allowance_at role party (before ++ payload ∷ []) ≡ allowance_at role party before
+  pub allowance_dropped : ((k : ℕ) → kept role config.offer k before payload ≡ false)
+      → allowance_at role config (before ++ payload ∷ []) ≡ allowance_at role config before
   allowance_dropped none = uncounted (none 21)
-      (ap (λ (b : Bool). stood role party.offer 21 before && (is_ignorable (kind payload) && not b)) due
-      ∙ ap (λ (b : Bool). stood role party.offer 21 before && b) (and_false (is_ignorable (kind payload))) ∙ and_false (stood role party.offer 21 before))
+      (ap (λ (b : Bool). stood role config.offer 21 before && (is_ignorable (message_number payload) && not b)) due
+      ∙ ap (λ (b : Bool). stood role config.offer 21 before && b) (and_false (is_ignorable (message_number payload))) ∙ and_false (stood role config.offer 21 before))
     where
       by : (same is : Bool) → same ≡ true → (same && not is) ≡ false → is ≡ true
       by true true e f = refl
       by true false e f = absurd (true≢false f)
       by false is e f = absurd (true≢false (sym e))
 
-      due : dropped role party.offer before payload ≡ true
-      due = by (kind payload == kind payload) (dropped role party.offer before payload) (eq-eqb (kind payload) (kind payload) refl) (none (kind payload))
+      due : dropped role config.offer before payload ≡ true
+      due = by (message_number payload == message_number payload) (dropped role config.offer before payload) (eq-eqb (message_number payload) (message_number payload) refl) (none (message_number payload))
 
-  pub allowance_stays : kept role party.offer 21 before payload ≡ false → is_ignorable (kind payload) ≡ false
-      → allowance_at role party (before ++ payload ∷ []) ≡ allowance_at role party before
+  pub allowance_stays : kept role config.offer 21 before payload ≡ false → is_ignorable (message_number payload) ≡ false
+      → allowance_at role config (before ++ payload ∷ []) ≡ allowance_at role config before
   allowance_stays other heeded = uncounted other
-      (ap (λ (b : Bool). stood role party.offer 21 before && (b && not (dropped role party.offer before payload))) heeded ∙ and_false (stood role party.offer 21 before))
+      (ap (λ (b : Bool). stood role config.offer 21 before && (b && not (dropped role config.offer before payload))) heeded ∙ and_false (stood role config.offer 21 before))
 
   -- any payload that isn't dropped, of which the first NEWKEYS alone leaves the phase
-  pub allowance_more : expects_guess role party.offer before ≡ false → ((kind payload == 21) ≡ false) ⊎ (stood role party.offer 21 before ≡ false)
-      → allowance_at role party (before ++ payload ∷ []) ≡ cond (kind payload == 21) party.ignored_limit (allowance_after (allowance_at role party before) payload)
-  allowance_more none first = elim (cases_Bool (kind payload == 21)) [
+  pub allowance_more : expects_guess role config.offer before ≡ false → ((message_number payload == 21) ≡ false) ⊎ (stood role config.offer 21 before ≡ false)
+      → allowance_at role config (before ++ payload ∷ []) ≡ cond (message_number payload == 21) config.ignored_limit (allowance_after (allowance_at role config before) payload)
+  allowance_more none first = elim (cases_Bool (message_number payload == 21)) [
     | inl is ↦ rw is (switches is first)
-    | inr other ↦ rw other (elim (cases_Bool (is_ignorable (kind payload))) [
+    | inr other ↦ rw other (elim (cases_Bool (is_ignorable (message_number payload))) [
       | inl heeded ↦ rw heeded (spends other heeded)
-      | inr heeded ↦ rw heeded (allowance_stays (kept_free role party.offer before payload 21 none ∙ other) heeded)
+      | inr heeded ↦ rw heeded (allowance_stays (kept_free role config.offer before payload 21 none ∙ other) heeded)
     ])
   ]
     where
-      switches : (kind payload == 21) ≡ true → ((kind payload == 21) ≡ false) ⊎ (stood role party.offer 21 before ≡ false) → allowance_at role party (before ++ payload ∷ []) ≡ party.ignored_limit
+      switches : (message_number payload == 21) ≡ true → ((message_number payload == 21) ≡ false) ⊎ (stood role config.offer 21 before ≡ false) → allowance_at role config (before ++ payload ∷ []) ≡ config.ignored_limit
       switches is (inl other) = absurd (true≢false (sym is ∙ other))
       switches is (inr off) =
-          let now : stood role party.offer 21 (before ++ payload ∷ []) ≡ true = stood_push role party.offer before payload 21 ∙ rw (off, kept_free role party.offer before payload 21 none, is) refl in
-          let nothing : costs role party.offer (before ++ payload ∷ []) ≡ [] = costs_push role party.offer before payload ∙ rw off (append-nil (costs role party.offer before) ∙ costs_none role party.offer before off) in
-          ap (λ (b : Bool). by_parts b (costs role party.offer (before ++ payload ∷ []))) now ∙ ap (λ (xs : List ℕ). by_parts true xs) nothing ∙ less_nothing party.ignored_limit
+          let now : stood role config.offer 21 (before ++ payload ∷ []) ≡ true = stood_push role config.offer before payload 21 ∙ rw (off, kept_free role config.offer before payload 21 none, is) refl in
+          let nothing : costs role config.offer (before ++ payload ∷ []) ≡ [] = costs_push role config.offer before payload ∙ rw off (append-nil (costs role config.offer before) ∙ costs_none role config.offer before off) in
+          ap (λ (b : Bool). by_parts b (costs role config.offer (before ++ payload ∷ []))) now ∙ ap (λ (xs : List ℕ). by_parts true xs) nothing ∙ less_nothing config.ignored_limit
 
-      spends : (kind payload == 21) ≡ false → is_ignorable (kind payload) ≡ true → allowance_at role party (before ++ payload ∷ []) ≡ less (allowance_at role party before) (cost payload)
+      spends : (message_number payload == 21) ≡ false → is_ignorable (message_number payload) ≡ true → allowance_at role config (before ++ payload ∷ []) ≡ less (allowance_at role config before) (cost payload)
       spends other heeded =
-          let unkept : kept role party.offer 21 before payload ≡ false = kept_free role party.offer before payload 21 none ∙ other in
-          elim (cases_Bool (stood role party.offer 21 before)) [
+          let unkept : kept role config.offer 21 before payload ≡ false = kept_free role config.offer before payload 21 none ∙ other in
+          elim (cases_Bool (stood role config.offer 21 before)) [
             | inl on ↦
-                let now : stood role party.offer 21 (before ++ payload ∷ []) ≡ true = stood_push role party.offer before payload 21 ∙ rw on refl in
-                let more : costs role party.offer (before ++ payload ∷ []) ≡ costs role party.offer before ++ cost payload ∷ [] = costs_push role party.offer before payload ∙ rw (on, heeded, none) refl in
-                rw on (ap (λ (b : Bool). by_parts b (costs role party.offer (before ++ payload ∷ []))) now ∙ ap (λ (xs : List ℕ). by_parts true xs) more
-                ∙ ap (less party.ignored_limit) (sum_by_push (λ (n : ℕ). n) (costs role party.offer before) (cost payload)) ∙ less_more party.ignored_limit (sum (costs role party.offer before)) (cost payload))
+                let now : stood role config.offer 21 (before ++ payload ∷ []) ≡ true = stood_push role config.offer before payload 21 ∙ rw on refl in
+                let more : costs role config.offer (before ++ payload ∷ []) ≡ costs role config.offer before ++ cost payload ∷ [] = costs_push role config.offer before payload ∙ rw (on, heeded, none) refl in
+                rw on (ap (λ (b : Bool). by_parts b (costs role config.offer (before ++ payload ∷ []))) now ∙ ap (λ (xs : List ℕ). by_parts true xs) more
+                ∙ ap (less config.ignored_limit) (sum_by_push (λ (n : ℕ). n) (costs role config.offer before) (cost payload)) ∙ less_more config.ignored_limit (sum (costs role config.offer before)) (cost payload))
             | inr off ↦
-                let now : stood role party.offer 21 (before ++ payload ∷ []) ≡ false = stood_push role party.offer before payload 21 ∙ rw (off, unkept) refl in
+                let now : stood role config.offer 21 (before ++ payload ∷ []) ≡ false = stood_push role config.offer before payload 21 ∙ rw (off, unkept) refl in
                 rw (off, now) refl
           ]

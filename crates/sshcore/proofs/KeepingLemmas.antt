@@ -5,7 +5,7 @@ use Rattle.std.specs.Prelude.{not}
 use Rattle.std.proofs.lemmas.Bool.{cases_Bool, eq-eqb, true≢false}
 use Rattle.std.proofs.lemmas.List.{drop-drop, length-drop}
 use Rattle.sshmsg.specs.declared.numbers.TheConstants.{SSH_MSG_USERAUTH_PK_OK}
-use Rattle.sshmsg.specs.Numbers.{kind}
+use Rattle.sshmsg.specs.Numbers.{message_number}
 use Rattle.sshwire.specs.declared.line_form.LineForm.{LineForm}
 use Rattle.sshneg.specs.ChoiceReadings.{is_in}
 use Rattle.sshneg.specs.Fields.{AlgorithmsData}
@@ -17,9 +17,9 @@ use Rattle.sshpacket.specs.Stream.{Units}
 use Rattle.sshpacket.specs.Suite.{SuiteData}
 use Rattle.sshcore.specs.declared.input.Input.{Input}
 use Rattle.sshcore.specs.declared.input.Input.TheVariants as input
-use Rattle.sshcore.specs.declared.table.Line.{Line}
-use Rattle.sshcore.specs.declared.table.Phase.{Phase}
-use Rattle.sshcore.specs.declared.table.Phase.TheVariants as phase
+use Rattle.sshcore.specs.declared.phase_table.Disposition.{Disposition}
+use Rattle.sshcore.specs.declared.phase_table.Phase.{Phase}
+use Rattle.sshcore.specs.declared.phase_table.Phase.TheVariants as phase
 use Rattle.sshcore.specs.Brings.{Brings, Drops, Exchanges, Gives, IsOngoing, Leaves, Moves, Offers, Stays, received_one}
 use Rattle.sshcore.specs.ConfigParts.{AttemptData, ByKey, ByNothing, ByPassword, CredentialData}
 use Rattle.sshcore.specs.Counting.{switched_out}
@@ -27,19 +27,19 @@ use Rattle.sshcore.specs.EndData.{goes}
 use Rattle.sshcore.specs.EndpointParts.{ConfigData, Setup}
 use Rattle.sshcore.specs.Inputs.{Begins, CanRead}
 use Rattle.sshcore.specs.Keeping.{FitsConfig, IsRest, StillFits}
-use Rattle.sshcore.specs.Known.{Known}
+use Rattle.sshcore.specs.KnownBefore.{Known}
 use Rattle.sshcore.specs.Output.{Sending, after_sending, keys_after, sending_from}
 use Rattle.sshcore.specs.Phases.{leaving, next_phase, past_exchange, past_kexinit}
 use Rattle.sshcore.specs.Plan.{asks, confirmed, is_answer, is_waiting, left_after_one, listed_in, next_after, next_listed, proving_name, unasked}
-use Rattle.sshcore.specs.Replies.{line_reply}
+use Rattle.sshcore.specs.Replies.{disposition_reply}
 use Rattle.sshcore.specs.Standing.{after_exchange, after_offer, after_payload}
 use Rattle.sshcore.specs.StateData.{StateData, begun, left_of}
-use Rattle.sshcore.specs.Table.{line_by}
+use Rattle.sshcore.specs.Table.{disposition_by}
 use Rattle.sshcore.specs.Unread.{IsTurned, Turns}
 use Rattle.sshcore.specs.Work.{making}
-use Rattle.sshcore.proofs.Below.{Below}
+use Rattle.sshcore.proofs.LawsBelow.{Below}
 use Rattle.sshcore.proofs.FeedLemmas.{none_sent}
-use Rattle.sshcore.proofs.KeyedLemmas.{exchange_line, still_making}
+use Rattle.sshcore.proofs.KeyedLemmas.{exchange_disposition, still_making}
 use Rattle.sshcore.proofs.OutputLemmas.{after_quiet}
 use Rattle.sshcore.proofs.StandingLemmas.{past_past}
 use Rattle.sshcore.proofs.TableLemmas.{sees}
@@ -94,13 +94,13 @@ module _ (plan : List AttemptData) where
 
   rest_one : (left : List AttemptData) (answer : List ℕ) → IsRest plan left → IsRest plan (left_after_one left answer)
   rest_one left answer r =
-      rest_cond (kind answer == SSH_MSG_USERAUTH_PK_OK) (confirmed left) (next_after (listed_in answer) left) (rest_confirmed left r) (rest_next (listed_in answer) left r)
+      rest_cond (message_number answer == SSH_MSG_USERAUTH_PK_OK) (confirmed left) (next_after (listed_in answer) left) (rest_confirmed left r) (rest_next (listed_in answer) left r)
 
   rest_begun : IsRest plan plan
   rest_begun = record { from = 0; is = inl refl }
 
 -- what is sent in clear is so where no NEWKEYS is sent
-quiet_keys : (m : SuiteData) (strict : Bool) (next : KeysData) (before us : Units) (o : Sending) → o.keys ≡ None → EachPlace (λ (b : Units) (a : List ℕ). (kind a == 21) ≡ false) before us
+quiet_keys : (m : SuiteData) (strict : Bool) (next : KeysData) (before us : Units) (o : Sending) → o.keys ≡ None → EachPlace (λ (b : Units) (a : List ℕ). (message_number a == 21) ≡ false) before us
     → (sending_from m strict next o us).keys ≡ None
 unfolding sending_from
 quiet_keys m strict next before [] o clear e = clear
@@ -144,30 +144,30 @@ module _ (setup : Setup) (payload : List ℕ) (old new : StateData) where
   rest_after r (Drops due one same st) = as_rest (received_one old.known) st.known_is r
   rest_after r (Exchanges at none is same st) = as_rest (after_exchange setup.suite setup.role setup.config old.known payload) st.known_is r
   rest_after r (Leaves none gone is same st) = as_rest (after_payload setup.suite setup.decisions setup.config old.known payload) st.known_is
-      (rest_cond setup.config.plan (is_answer (kind payload)) (left_after_one old.known.left payload) old.known.left (rest_one setup.config.plan old.known.left payload r) r)
+      (rest_cond setup.config.plan (is_answer (message_number payload)) (left_after_one old.known.left payload) old.known.left (rest_one setup.config.plan old.known.left payload r) r)
   rest_after r (Stays none calm same st) = as_rest (after_payload setup.suite setup.decisions setup.config old.known payload) st.known_is
-      (rest_cond setup.config.plan (is_answer (kind payload)) (left_after_one old.known.left payload) old.known.left (rest_one setup.config.plan old.known.left payload r) r)
+      (rest_cond setup.config.plan (is_answer (message_number payload)) (left_after_one old.known.left payload) old.known.left (rest_one setup.config.plan old.known.left payload r) r)
 
 -- What a packet brings.
 module _ (below : Below) (setup : Setup) (payload : List ℕ) (old new : StateData) (packet : ℕ) (before after : List ℕ) where
-  abbrev line : Line
-  line = line_by setup.role old.phase old.known.strict old.guess (is_waiting old.known.left) (kind payload)
+  abbrev line : Disposition
+  line = disposition_by setup.role old.phase old.known.strict old.guess (is_waiting old.known.left) (message_number payload)
 
   abbrev answers : Units
-  answers = (line_reply setup old.known packet line payload).answers
+  answers = (disposition_reply setup old.known packet line payload).answers
 
   -- before the exchange is past it was so before, and no NEWKEYS is sent
   early : Moves setup payload old new → past_exchange new.phase ≡ false → (past_exchange old.phase ≡ false) × (switched_out answers ≡ true → ⊥)
   early (Offers peer at none is same has st) not_past = (
     ap past_exchange at,
     λ on.
-        let e = exchange_line below setup old.known packet payload old.phase old.known.strict old.guess line (sees setup.role old.phase old.known.strict (is_waiting old.known.left) (kind payload) old.guess) on in
+        let e = exchange_disposition below setup old.known packet payload old.phase old.known.strict old.guess line (sees setup.role old.phase old.known.strict (is_waiting old.known.left) (message_number payload) old.guess) on in
         let bad : phase.KexInit ≡ phase.Exchange = sym at ∙ e.at in absurd cc,
   )
   early (Drops due one same st) not_past = (
     ap past_exchange (sym st.phase_is) ∙ not_past,
     λ on.
-        let e = exchange_line below setup old.known packet payload old.phase old.known.strict old.guess line (sees setup.role old.phase old.known.strict (is_waiting old.known.left) (kind payload) old.guess) on in
+        let e = exchange_disposition below setup old.known packet payload old.phase old.known.strict old.guess line (sees setup.role old.phase old.known.strict (is_waiting old.known.left) (message_number payload) old.guess) on in
         true≢false (sym due ∙ e.none_due),
   )
   early (Exchanges at none is same st) not_past = absurd (true≢false (sym (ap past_exchange st.phase_is) ∙ not_past))
@@ -175,8 +175,8 @@ module _ (below : Below) (setup : Setup) (payload : List ℕ) (old new : StateDa
   early (Stays none calm same st) not_past = (
     ap past_exchange (sym st.phase_is) ∙ not_past,
     λ on.
-        let e = exchange_line below setup old.known packet payload old.phase old.known.strict old.guess line (sees setup.role old.phase old.known.strict (is_waiting old.known.left) (kind payload) old.guess) on in
-        true≢false (sym (eq-eqb (kind payload) (leaving setup.role phase.Exchange) e.leaves) ∙ calm.exchange),
+        let e = exchange_disposition below setup old.known packet payload old.phase old.known.strict old.guess line (sees setup.role old.phase old.known.strict (is_waiting old.known.left) (message_number payload) old.guess) on in
+        true≢false (sym (eq-eqb (message_number payload) (leaving setup.role phase.Exchange) e.leaves) ∙ calm.exchange),
   )
 
   pub fits_after : (FitsConfig setup.suite setup.config old → Brings setup old new packet payload before after) → StillFits setup.suite setup.config old new
@@ -195,36 +195,36 @@ module _ (below : Below) (setup : Setup) (payload : List ℕ) (old new : StateDa
       }
 
 -- What no packet brings.
-module _ (m : SuiteData) (party : ConfigData) where
+module _ (m : SuiteData) (config : ConfigData) where
   -- nothing but what is carried along changes, what is sent with, and how it stands
-  fits_as : (old new : StateData) → new.phase ≡ old.phase → new.known ≡ old.known → new.sending ≡ old.sending → FitsConfig m party old → FitsConfig m party new
+  fits_as : (old new : StateData) → new.phase ≡ old.phase → new.known ≡ old.known → new.sending ≡ old.sending → FitsConfig m config old → FitsConfig m config new
   fits_as old new same_phase same_known same_sending f = record {
     form = record {
       form = λ past. ap (λ (k : Known). k.shares) same_known ∙ f.form.form (ap past_kexinit (sym same_phase) ∙ past) ∙ ap (λ (k : Known). m.share_form k.algorithms.kex) (sym same_known);
       clear = λ not_past. ap (λ (o : Sending). o.keys) same_sending ∙ f.form.clear (ap past_exchange (sym same_phase) ∙ not_past);
     };
-    rest = subst (λ (k : Known). IsRest party.plan k.left) (sym same_known) f.rest;
+    rest = subst (λ (k : Known). IsRest config.plan k.left) (sym same_known) f.rest;
   }
 
-  pub fits_turned : (old new last : StateData) (p q : PacketReader) → Turns new last p q → StillFits m party old new → StillFits m party old last
+  pub fits_turned : (old new last : StateData) (p q : PacketReader) → Turns new last p q → StillFits m config old new → StillFits m config old last
   fits_turned old new last p q turns still fits ongoing =
       fits_as new last (ap (λ (k : StateData). k.phase) turns.left) (ap (λ (k : StateData). k.known) turns.left) (ap (λ (k : StateData). k.sending) turns.left)
       (still fits (subst IsOngoing (ap (λ (k : StateData). k.end) turns.left) ongoing))
 
-  pub fits_input : (old new last : StateData) (j k : Input) → IsTurned new last j k → StillFits m party old new → StillFits m party old last
+  pub fits_input : (old new last : StateData) (j k : Input) → IsTurned new last j k → StillFits m config old new → StillFits m config old last
   fits_input old new last (input.Packets p) (input.Packets q) turned still = fits_turned old new last p q turned still
   fits_input old new last (input.Packets p) (input.Lines q) turned still = absurd turned
   fits_input old new last (input.Lines p) k turned still = absurd turned
 
 -- What is kept before any byte.
-pub begun_fits : (m : SuiteData) (role : Side) (party : ConfigData) (new : StateData) (before after : List ℕ) (strict : Bool) (next : KeysData) → new ≡ record (begun party) { sending = new.sending }
-    → Gives m party.seed strict next (begun party) new before after (goes (making m role party)) → FitsConfig m party new
-begun_fits m role party new before after strict next is gives =
+pub begun_fits : (m : SuiteData) (role : Side) (config : ConfigData) (new : StateData) (before after : List ℕ) (strict : Bool) (next : KeysData) → new ≡ record (begun config) { sending = new.sending }
+    → Gives m config.seed strict next (begun config) new before after (goes (making m role config)) → FitsConfig m config new
+begun_fits m role config new before after strict next is gives =
     let keys : new.sending.keys ≡ None =
-    ap (λ (o : Sending). o.keys) gives.sends ∙ quiet_keys m strict next [] (making m role party) (record { keys = None; number = 0 }) refl (none_sent (making m role party) (still_making m role party)) in
-    subst (λ (k : StateData). FitsConfig m party k) (sym is) (record {
+    ap (λ (o : Sending). o.keys) gives.sends ∙ quiet_keys m strict next [] (making m role config) (record { keys = None; number = 0 }) refl (none_sent (making m role config) (still_making m role config)) in
+    subst (λ (k : StateData). FitsConfig m config k) (sym is) (record {
       form = record { form = λ past. absurd (true≢false (sym past)); clear = λ not_past. keys };
-      rest = rest_begun party.plan;
+      rest = rest_begun config.plan;
     })
 
 -- lines may be read then

@@ -1,9 +1,9 @@
-pub mod Below
+pub mod LawsBelow
 pub mod EndpointPartsLemmas
 pub mod AlgorithmsLemmas
 pub mod PayloadLemmas
 pub mod AgreeLemmas
-pub mod SampleParties
+pub mod SampleConfigs
 pub mod Samples
 pub mod TableSamples
 pub mod TableLemmas
@@ -65,7 +65,7 @@ pub mod RecordLawLemmas
 pub mod LinkLemmas
 pub mod AuthenticatedLemmas
 pub mod UncutLemmas
-pub mod ReachedLemmas
+pub mod CompletedMethodsLemmas
 pub mod AnswerLemmas
 pub mod TriesLemmas
 pub mod SuiteFitLemmas

@@ -23,8 +23,8 @@ use Rattle.sshcore.specs.declared.input.Received.{Received}
 use Rattle.sshcore.specs.declared.input.Received.TheVariants as received
 use Rattle.sshcore.specs.declared.input.Input.{Input}
 use Rattle.sshcore.specs.declared.input.Input.TheVariants as input
-use Rattle.sshcore.specs.declared.table.Phase.{Phase}
-use Rattle.sshcore.specs.declared.table.Phase.TheVariants as phase
+use Rattle.sshcore.specs.declared.phase_table.Phase.{Phase}
+use Rattle.sshcore.specs.declared.phase_table.Phase.TheVariants as phase
 use Rattle.sshcore.specs.Brings.{Gives}
 use Rattle.sshcore.specs.Counting.{number_in, switched_out}
 use Rattle.sshcore.specs.Directions.{form_of, keys_in, others_of, parsers, payloads_in, version_in}
@@ -34,12 +34,12 @@ use Rattle.sshcore.specs.ReceivesLines.{ReceivesLines}
 use Rattle.sshcore.specs.History.{History}
 use Rattle.sshcore.specs.Inputs.{AsReceived, EndpointStands, GoesOn, Steps, pending_at}
 use Rattle.sshcore.specs.StateData.{StateData}
-use Rattle.sshcore.specs.Known.{Known}
+use Rattle.sshcore.specs.KnownBefore.{Known}
 use Rattle.sshcore.specs.Phases.{past_exchange}
 use Rattle.sshcore.specs.Output.{Speaks, sending_from, sent_from}
 use Rattle.sshcore.specs.EndpointParts.{ConfigData, Setup}
 use Rattle.sshcore.specs.Standing.{Sits, nothing_known}
-use Rattle.sshcore.proofs.Below.{Below}
+use Rattle.sshcore.proofs.LawsBelow.{Below}
 use Rattle.sshcore.proofs.FeedLemmas.{open_history, stands_part, stands_refused, within}
 use Rattle.sshcore.proofs.HistoryLemmas as history
 use Rattle.sshcore.proofs.HistoryLemmas.{Streams}
@@ -66,11 +66,11 @@ gives_nothing : (m : SuiteData) (seed : List ℕ) (strict : Bool) (next : KeysDa
 unfolding sent_from sending_from
 gives_nothing m seed strict next kept before = record { ends = refl; output = sym (append-nil before); sends = refl; fits = tt }
 
-number_none : (role : Side) (party : ConfigData) → number_in role party [] ≡ 0
-number_none role party = rw ((tied_none role party.offer).newkeys) refl
+number_none : (role : Side) (config : ConfigData) → number_in role config [] ≡ 0
+number_none role config = rw ((tied_none role config.offer).newkeys) refl
 
-keys_none : (m : SuiteData) (role : Side) (party : ConfigData) (version sizes : List ℕ) → keys_in m role party version [] sizes ≡ None
-keys_none m role party version sizes = rw ((tied_none role party.offer).newkeys) refl
+keys_none : (m : SuiteData) (role : Side) (config : ConfigData) (version sizes : List ℕ) → keys_in m role config version [] sizes ≡ None
+keys_none m role config version sizes = rw ((tied_none role config.offer).newkeys) refl
 
 -- where an endpoint stands that has received no line
 first_phase : (setup : Setup) (p : Phase) (g : Bool) (k : Known) → Sits setup [] [] p g k → p ≡ phase.KexInit

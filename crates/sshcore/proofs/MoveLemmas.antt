@@ -4,7 +4,7 @@ use Rattle.std.proofs.Common.{◌≡◌, inl, inr, ℕ, ◌+◌, ◌==◌, Bool,
 use Rattle.std.specs.Prelude.{◌%◌, ◌^◌}
 use Rattle.std.proofs.lemmas.Bool.{true≢false}
 use Rattle.sshmsg.specs.MessageData.{KexInit}
-use Rattle.sshmsg.specs.Numbers.{kind}
+use Rattle.sshmsg.specs.Numbers.{message_number}
 use Rattle.sshwire.specs.declared.share_form.ShareForm.TheVariants.{Mpint}
 use Rattle.sshneg.specs.declared.side.Side.{Side}
 use Rattle.sshneg.specs.declared.side.Side.TheVariants.{Client, Server}
@@ -14,8 +14,8 @@ use Rattle.sshneg.specs.Markers.{other}
 use Rattle.sshpacket.specs.KeysData.{KeysData}
 use Rattle.sshpacket.specs.Stream.{Units}
 use Rattle.sshpacket.specs.Suite.{SuiteData, advanced, all_advanced, next_keys}
-use Rattle.sshcore.specs.declared.table.Phase.{Phase}
-use Rattle.sshcore.specs.declared.table.Phase.TheVariants as phase
+use Rattle.sshcore.specs.declared.phase_table.Phase.{Phase}
+use Rattle.sshcore.specs.declared.phase_table.Phase.TheVariants as phase
 use Rattle.sshcore.specs.Before.{kept, stood, wrong_guess}
 use Rattle.sshcore.specs.Brings.{Drops, Exchanges, Leaves, Moves, Offers, StandsAt, Stays, received_one}
 use Rattle.sshcore.specs.Counting.{number_in}
@@ -23,11 +23,11 @@ use Rattle.sshcore.specs.Directions.{keys_in, sizes_since}
 use Rattle.sshcore.specs.Exchange.{exchange_at, keys_at}
 use Rattle.sshcore.specs.Inputs.{IsCarried, pending_at}
 use Rattle.sshcore.specs.StateData.{Carried, StateData, keys_due, keys_left}
-use Rattle.sshcore.specs.Known.{Known}
+use Rattle.sshcore.specs.KnownBefore.{Known}
 use Rattle.sshcore.specs.EndpointParts.{Setup, UserKeyData}
 use Rattle.sshcore.specs.Phases.{leaving, next_phase, past_exchange, past_kexinit, past_newkeys}
 use Rattle.sshcore.specs.Standing.{Sits, after_exchange, after_offer, after_payload}
-use Rattle.sshcore.proofs.Below.{Below}
+use Rattle.sshcore.proofs.LawsBelow.{Below}
 use Rattle.sshcore.proofs.CountingLemmas.{sizes_off, sizes_on}
 use Rattle.sshcore.proofs.GuessLemmas.{read_offer}
 use Rattle.sshcore.specs.Tries.{last_key, successful_key_in}
@@ -158,13 +158,13 @@ module _ (below : Below) (setup : Setup) (version : List ℕ) (before : Units) (
 
   -- a message that leaves a phase after the exchange
   leaving_turn : (p : Phase) (b : Bool) (known next : Known) → Sits setup version before p false known → Sits setup version (before ++ payload ∷ []) (next_phase p) b next
-      → past_exchange p ≡ true → kind payload ≡ leaving setup.role p → Turned (next_phase p) (pending_at p keys_so_far) known.strict
+      → past_exchange p ≡ true → message_number payload ≡ leaving setup.role p → Turned (next_phase p) (pending_at p keys_so_far) known.strict
   leaving_turn phase.KexInit b known next s t past is = absurd (true≢false (sym past))
   leaving_turn phase.Exchange b known next s t past is = absurd (true≢false (sym past))
   leaving_turn phase.NewKeys b known next s t past is = record {
     left = refl;
     keys = keys_in_at (before ++ payload ∷ []) (sizes ++ size ∷ []) phase.Service b next t ∙ begins_on s.tied.newkeys (standing.keeps_keys setup version before payload phase.NewKeys false known s refl (other setup.role));
-    number = standing.counts_anew setup version before payload known s (newkeys_kind setup.role (kind payload) is);
+    number = standing.counts_anew setup version before payload known s (newkeys_kind setup.role (message_number payload) is);
   }
     where
       newkeys_kind : (role : Side) (n : ℕ) → n ≡ leaving role phase.NewKeys → n ≡ 21
@@ -194,7 +194,7 @@ module _ (below : Below) (setup : Setup) (version : List ℕ) (before : Units) (
         let s0 : Sits setup version before phase.KexInit false old.known = as_known before old.phase phase.KexInit old.guess false old.known old.known at none refl s in
         let t0 : Sits setup version (before ++ payload ∷ []) phase.Exchange (wrong_guess setup.role setup.config.offer (Some peer)) (after_offer setup.suite setup.role setup.config old.known payload peer) =
         standing.offers setup version before payload below peer old.known s0 is in
-        let twenty : kind payload ≡ 20 = below.numbers Mpint payload (KexInit peer) (read_offer payload peer is) in
+        let twenty : message_number payload ≡ 20 = below.numbers Mpint payload (KexInit peer) (read_offer payload peer is) in
         let unkept : kept setup.role setup.config.offer 21 before payload ≡ false = kept_free setup.role setup.config.offer before payload 21 s0.due ∙ rw twenty refl in
         turned_as phase.Exchange new.phase None new.carried.pending new.known.strict new.known.strict st.phase_is (ap (λ (c : Carried). c.pending) same ∙ pending ∙ ap (λ (p : Phase). pending_at p keys_so_far) at) refl (record {
           left = refl;
@@ -211,7 +211,7 @@ module _ (below : Below) (setup : Setup) (version : List ℕ) (before : Units) (
         let s0 : Sits setup version before phase.Exchange false old.known = as_known before old.phase phase.Exchange old.guess false old.known old.known at none refl s in
         let t0 : Sits setup version (before ++ payload ∷ []) phase.NewKeys false (after_exchange setup.suite setup.role setup.config old.known payload) =
         standing.exchanges setup version before payload old.known s0 is in
-        let unkept : kept setup.role setup.config.offer 21 before payload ≡ false = kept_free setup.role setup.config.offer before payload 21 s0.due ∙ exchange_number setup.role (kind payload) is in
+        let unkept : kept setup.role setup.config.offer 21 before payload ≡ false = kept_free setup.role setup.config.offer before payload 21 s0.due ∙ exchange_number setup.role (message_number payload) is in
         turned_as phase.NewKeys new.phase (Some keys_after) new.carried.pending new.known.strict new.known.strict st.phase_is
         (ap (λ (c : Carried). c.pending) same ∙ ap Some (sym (standing.makes_keys setup version before payload old.known s0 is (other setup.role)))) refl (record {
           left = refl;
@@ -251,10 +251,10 @@ module _ (below : Below) (setup : Setup) (version : List ℕ) (before : Units) (
 
     -- one that may be one
     tried_on : (known : Known) → Sits setup version before old.phase false known
-        → cond (kind payload == 50) (last_key old.carried.user_key (successful_key_in setup.suite setup.decisions setup.config known.session known.request payload)) old.carried.user_key ≡ last_successful_key setup version (before ++ payload ∷ [])
+        → cond (message_number payload == 50) (last_key old.carried.user_key (successful_key_in setup.suite setup.decisions setup.config known.session known.request payload)) old.carried.user_key ≡ last_successful_key setup version (before ++ payload ∷ [])
     tried_on known t =
-        ap (λ (x : Option UserKeyData). cond (kind payload == 50) (last_key x (successful_key_in setup.suite setup.decisions setup.config known.session known.request payload)) x) c.user_key
-        ∙ ap (λ (k : Known). cond (kind payload == 50) (last_key (last_successful_key setup version before) (successful_key_in setup.suite setup.decisions setup.config k.session k.request payload)) (last_successful_key setup version before)) (sym t.knows)
+        ap (λ (x : Option UserKeyData). cond (message_number payload == 50) (last_key x (successful_key_in setup.suite setup.decisions setup.config known.session known.request payload)) x) c.user_key
+        ∙ ap (λ (k : Known). cond (message_number payload == 50) (last_key (last_successful_key setup version before) (successful_key_in setup.suite setup.decisions setup.config k.session k.request payload)) (last_successful_key setup version before)) (sym t.knows)
         ∙ sym (key_more setup version before payload t.due)
 
     -- past the exchange its host key stays
@@ -264,7 +264,7 @@ module _ (below : Below) (setup : Setup) (version : List ℕ) (before : Units) (
     pub carries_on : Moves setup payload old new → CarriesOn new.phase new.carried
     carries_on (Offers peer at none is same form st) =
         let s0 : Sits setup version before phase.KexInit false old.known = as_known before old.phase phase.KexInit old.guess false old.known old.known at none refl s in
-        let twenty : kind payload ≡ 20 = below.numbers Mpint payload (KexInit peer) (read_offer payload peer is) in
+        let twenty : message_number payload ≡ 20 = below.numbers Mpint payload (KexInit peer) (read_offer payload peer is) in
         record {
           own_version = λ past. absurd (true≢false (sym past ∙ ap past_exchange st.phase_is));
           host_key = λ past. absurd (true≢false (sym past ∙ ap past_exchange st.phase_is));
@@ -283,7 +283,7 @@ module _ (below : Below) (setup : Setup) (version : List ℕ) (before : Units) (
         record {
           own_version = λ past. ap (λ (x : Carried). x.own_version) same;
           host_key = λ past. ap (λ (x : Carried). x.host_key) same ∙ ap (λ (x : ExchangeData). x.host_key) (sym (standing.makes_exchange setup version before payload old.known s0 is));
-          user_key = quiet_key new.carried.user_key (ap (λ (x : Carried). x.user_key) same) (kept_free setup.role setup.config.offer before payload 50 s0.due ∙ exchange_request setup.role (kind payload) is);
+          user_key = quiet_key new.carried.user_key (ap (λ (x : Carried). x.user_key) same) (kept_free setup.role setup.config.offer before payload 50 s0.due ∙ exchange_request setup.role (message_number payload) is);
         }
     carries_on (Leaves none past is same st) =
         let s0 : Sits setup version before old.phase false old.known = as_known before old.phase old.phase old.guess false old.known old.known refl none refl s in

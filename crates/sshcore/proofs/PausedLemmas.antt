@@ -60,23 +60,23 @@ module _ (old new : StateData) (same_end : new.end ≡ old.end) (same : IsOngoin
     unread = a.unread;
   }
 
-  asked_as : (m : SuiteData) (role : Side) (party : ConfigData) (j : Input) (w : Option WaitingData) → IsAskedBy m role party old j w → IsAskedBy m role party new j w
-  asked_as m role party j None a = tt
-  asked_as m role party j (Some w) a = λ o. subst (λ (k : StateData). IsAsked m role party k j w) (sym (same (goes_on o))) (a (goes_on o))
+  asked_as : (m : SuiteData) (role : Side) (config : ConfigData) (j : Input) (w : Option WaitingData) → IsAskedBy m role config old j w → IsAskedBy m role config new j w
+  asked_as m role config j None a = tt
+  asked_as m role config j (Some w) a = λ o. subst (λ (k : StateData). IsAsked m role config k j w) (sym (same (goes_on o))) (a (goes_on o))
 
-  pub asking_as : (m : SuiteData) (role : Side) (party : ConfigData) (j : Input) (w : Option WaitingData) → IsAskingEndpoint m role party old j w → IsAskingEndpoint m role party new j w
-  asking_as m role party j w a = record {
+  pub asking_as : (m : SuiteData) (role : Side) (config : ConfigData) (j : Input) (w : Option WaitingData) → IsAskingEndpoint m role config old j w → IsAskingEndpoint m role config new j w
+  asking_as m role config j w a = record {
     reads = λ o. a.reads (goes_on o);
-    asked = asked_as m role party j w a.asked;
-    keeps = λ o. subst (λ (k : StateData). FitsConfig m party k) (sym (same (goes_on o))) (a.keeps (goes_on o));
+    asked = asked_as m role config j w a.asked;
+    keeps = λ o. subst (λ (k : StateData). FitsConfig m config k) (sym (same (goes_on o))) (a.keeps (goes_on o));
   }
 
 -- It may be resumed with what is the same.
-pub fits_as : {S : Type 0} (meaning : S → SuiteData) (role r : Side) (party q : ConfigData) (suite t : S) (p : PausedData S) → role ≡ r → party ≡ q → suite ≡ t
-    → FitsPaused meaning role party suite p → FitsPaused meaning r q t p
-fits_as {S} meaning role r party q suite t p same_role same_party same_suite fits =
+pub fits_as : {S : Type 0} (meaning : S → SuiteData) (role r : Side) (config q : ConfigData) (suite t : S) (p : PausedData S) → role ≡ r → config ≡ q → suite ≡ t
+    → FitsPaused meaning role config suite p → FitsPaused meaning r q t p
+fits_as {S} meaning role r config q suite t p same_role same_config same_suite fits =
     subst (λ (x : Side). FitsPaused meaning x q t p) same_role
-    (subst (λ (x : ConfigData). FitsPaused meaning role x t p) same_party (subst (λ (x : S). FitsPaused meaning role party x p) same_suite fits))
+    (subst (λ (x : ConfigData). FitsPaused meaning role x t p) same_config (subst (λ (x : S). FitsPaused meaning role config x p) same_suite fits))
 
 -- A state that is kept without its plan.
 module _ (plan : List AttemptData) (old kept : State) (left : ℕ) (left_is : left ≡ length old.left.now) (waits : Bool) (waits_is : waits ≡ is_waiting (state_data old).known.left)
@@ -103,13 +103,13 @@ module _ (plan : List AttemptData) (old kept : State) (left : ℕ) (left_is : le
   kept_but_plan = ap (with_left []) kept_as
 
 -- What is paused may be resumed, as what was there.
-pub paused_fits : {S : Type 0} (meaning : S → SuiteData) (party : ConfigData) (suite : S) (old : State) (p : PausedData S) → p.left ≡ length old.left.now → (waits : Bool) → waits ≡ is_waiting (state_data old).known.left
-    → p.state.confirmed ≡ not waits → state_data p.state ≡ with_left (left_of (not waits) []) (state_data old) → (role : Side) → p.role ≡ role → p.configs ≡ party ∷ [] → p.suites ≡ suite ∷ []
-    → IsAskingEndpoint (meaning suite) role party (state_data old) p.input p.waiting → FitsPaused meaning role party suite p
-paused_fits meaning party suite old p left_is waits waits_is confirmed_is kept_is role role_is config_is suite_is asking = record {
+pub paused_fits : {S : Type 0} (meaning : S → SuiteData) (config : ConfigData) (suite : S) (old : State) (p : PausedData S) → p.left ≡ length old.left.now → (waits : Bool) → waits ≡ is_waiting (state_data old).known.left
+    → p.state.confirmed ≡ not waits → state_data p.state ≡ with_left (left_of (not waits) []) (state_data old) → (role : Side) → p.role ≡ role → p.configs ≡ config ∷ [] → p.suites ≡ suite ∷ []
+    → IsAskingEndpoint (meaning suite) role config (state_data old) p.input p.waiting → FitsPaused meaning role config suite p
+paused_fits meaning config suite old p left_is waits waits_is confirmed_is kept_is role role_is config_is suite_is asking = record {
   is_role = role_is;
   is_config = config_is;
   is_suite = suite_is;
-  fits = asking_as (state_data old) (kept_with party.plan p.state p.left) (kept_end party.plan old p.state p.left left_is waits waits_is confirmed_is kept_is)
-      (λ o. kept_same party.plan old p.state p.left left_is waits waits_is confirmed_is kept_is ((asking.keeps o).rest)) (meaning suite) role party p.input p.waiting asking;
+  fits = asking_as (state_data old) (kept_with config.plan p.state p.left) (kept_end config.plan old p.state p.left left_is waits waits_is confirmed_is kept_is)
+      (λ o. kept_same config.plan old p.state p.left left_is waits waits_is confirmed_is kept_is ((asking.keeps o).rest)) (meaning suite) role config p.input p.waiting asking;
 }

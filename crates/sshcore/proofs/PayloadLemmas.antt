@@ -13,7 +13,7 @@ use Rattle.sshmsg.specs.MessageData.{MessageData}
 use Rattle.sshmsg.specs.MessageData as content
 use Rattle.sshmsg.specs.Written.{written_message}
 use Rattle.sshpacket.specs.Suite.{FitsShare, IsPositiveBody}
-use Rattle.sshcore.specs.Made.{IsMade}
+use Rattle.sshcore.specs.MadePayloads.{IsMade}
 use Rattle.sshcore.proofs.ConfigOffers.{LengthLaw}
 
 -- a message's number stands first

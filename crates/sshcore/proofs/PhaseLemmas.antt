@@ -3,13 +3,13 @@
 use Rattle.std.proofs.Common.{◌≡◌, ℕ, ◌==◌, ◌&&◌, Bool, true, false, cond, List, [], ◌∷◌, ◌++◌, refl, sym, ap, ◌∙◌}
 use Rattle.std.proofs.lemmas.Bool.{and_parts, and_right}
 use Rattle.sshmsg.specs.MessageData.{KexInitData}
-use Rattle.sshmsg.specs.Numbers.{kind}
+use Rattle.sshmsg.specs.Numbers.{message_number}
 use Rattle.sshneg.specs.declared.side.Side.{Side}
 use Rattle.sshneg.specs.declared.side.Side.TheVariants.{Client, Server}
 use Rattle.sshpacket.specs.Stream.{Units}
 use Rattle.sshpacket.proofs.Places.{first-push, stands-push}
-use Rattle.sshcore.specs.declared.table.Phase.{Phase}
-use Rattle.sshcore.specs.declared.table.Phase.TheVariants as phase
+use Rattle.sshcore.specs.declared.phase_table.Phase.{Phase}
+use Rattle.sshcore.specs.declared.phase_table.Phase.TheVariants as phase
 use Rattle.sshcore.specs.Before.{expects_guess, is_kexinit, kept, kexinit, offered, stood}
 use Rattle.sshcore.specs.Phases.{leaving, next_phase, past_exchange, past_kexinit, past_newkeys, past_service, phase_at, phase_by}
 use Rattle.sshcore.specs.Standing.{LeavesNone, Tied}
@@ -22,12 +22,12 @@ cond_none : (x : Bool) → cond x true false ≡ x
 cond_none true = refl
 cond_none false = refl
 
-pub offered_push : (before : Units) (payload : List ℕ) → offered (before ++ payload ∷ []) ≡ cond (offered before) true (kind payload == 20)
+pub offered_push : (before : Units) (payload : List ℕ) → offered (before ++ payload ∷ []) ≡ cond (offered before) true (message_number payload == 20)
 unfolding offered
 offered_push before payload = stands-push is_kexinit [] before payload
 
 pub kexinit_push : (before : Units) (payload : List ℕ)
-    → kexinit (before ++ payload ∷ []) ≡ cond (offered before) (kexinit before) (cond (kind payload == 20) payload [])
+    → kexinit (before ++ payload ∷ []) ≡ cond (offered before) (kexinit before) (cond (message_number payload == 20) payload [])
 unfolding offered kexinit
 kexinit_push before payload = first-push [] is_kexinit [] before payload
 
@@ -36,11 +36,11 @@ module _ (role : Side) (own : KexInitData) (before : Units) (payload : List ℕ)
   unfolding stood
   stood_push k = stands-push (kept role own k) [] before payload
 
-  pub kept_free : (k : ℕ) → expects_guess role own before ≡ false → kept role own k before payload ≡ (kind payload == k)
-  kept_free k none = rw none (and_true (kind payload == k))
+  pub kept_free : (k : ℕ) → expects_guess role own before ≡ false → kept role own k before payload ≡ (message_number payload == k)
+  kept_free k none = rw none (and_true (message_number payload == k))
 
-  pub kept_dropped : (k : ℕ) → expects_guess role own before ≡ true → (kind payload == 1) ≡ false → kept role own k before payload ≡ false
-  kept_dropped k due one = rw (due, one) (and_right (kind payload == k) false refl)
+  pub kept_dropped : (k : ℕ) → expects_guess role own before ≡ true → (message_number payload == 1) ≡ false → kept role own k before payload ≡ false
+  kept_dropped k due one = rw (due, one) (and_right (message_number payload == k) false refl)
 
   pub guess_offered : expects_guess role own before ≡ true → offered before ≡ true
   unfolding expects_guess
@@ -50,7 +50,7 @@ module _ (role : Side) (own : KexInitData) (before : Units) (payload : List ℕ)
   stays_by : (k : ℕ) (b : Bool) → stood role own k before ≡ b → kept role own k before payload ≡ false → stood role own k (before ++ payload ∷ []) ≡ b
   stays_by k b e none = stood_push k ∙ rw (none, e) (cond_none b)
 
-  pub tied_dropped : (p : Phase) → Tied role own before p → expects_guess role own before ≡ true → (kind payload == 1) ≡ false → Tied role own (before ++ payload ∷ []) p
+  pub tied_dropped : (p : Phase) → Tied role own before p → expects_guess role own before ≡ true → (message_number payload == 1) ≡ false → Tied role own (before ++ payload ∷ []) p
   tied_dropped p t due one = record {
     offer = offered_push before payload ∙ rw (guess_offered due) (sym (guess_offered due) ∙ t.offer);
     kexinit = stays_by 20 (past_kexinit p) t.kexinit (kept_dropped 20 due one);
@@ -59,7 +59,7 @@ module _ (role : Side) (own : KexInitData) (before : Units) (payload : List ℕ)
     service = stays_by (leaving role phase.Service) (past_service p) t.service (kept_dropped (leaving role phase.Service) due one);
   }
 
-  pub tied_stays : (p : Phase) → Tied role own before p → expects_guess role own before ≡ false → LeavesNone role (kind payload) → Tied role own (before ++ payload ∷ []) p
+  pub tied_stays : (p : Phase) → Tied role own before p → expects_guess role own before ≡ false → LeavesNone role (message_number payload) → Tied role own (before ++ payload ∷ []) p
   tied_stays p t none l = record {
     offer = offered_push before payload ∙ rw (l.kexinit, t.offer) (cond_none (past_kexinit p));
     kexinit = stays_by 20 (past_kexinit p) t.kexinit (kept_free 20 none ∙ l.kexinit);
@@ -68,7 +68,7 @@ module _ (role : Side) (own : KexInitData) (before : Units) (payload : List ℕ)
     service = stays_by (leaving role phase.Service) (past_service p) t.service (kept_free (leaving role phase.Service) none ∙ l.service);
   }
 
-  leaves_by : (k : ℕ) (p : Phase) (b : Bool) → stood role own k before ≡ b → expects_guess role own before ≡ false → kind payload ≡ leaving role p
+  leaves_by : (k : ℕ) (p : Phase) (b : Bool) → stood role own k before ≡ b → expects_guess role own before ≡ false → message_number payload ≡ leaving role p
       → stood role own k (before ++ payload ∷ []) ≡ cond b true (leaving role p == k)
   leaves_by k p b e none is = stood_push k ∙ (rw (kept_free k none, e) refl ∙ ap (λ n. cond b true (n == k)) is)
 
@@ -92,7 +92,7 @@ leaves_to Server phase.Service = record { kexinit = refl; exchange = refl; newke
 leaves_to Server phase.Auth = record { kexinit = refl; exchange = refl; newkeys = refl; service = refl }
 
 pub tied_leaves : (role : Side) (own : KexInitData) (before : Units) (payload : List ℕ) (p : Phase) → Tied role own before p → expects_guess role own before ≡ false
-    → kind payload ≡ leaving role p → Tied role own (before ++ payload ∷ []) (next_phase p)
+    → message_number payload ≡ leaving role p → Tied role own (before ++ payload ∷ []) (next_phase p)
 tied_leaves role own before payload p t none is =
     let to = leaves_to role p in
     record {

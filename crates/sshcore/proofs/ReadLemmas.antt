@@ -22,7 +22,7 @@ use Rattle.sshcore.specs.Inputs.{EndpointStands, Steps}
 use Rattle.sshcore.specs.StateData.{StateData, keys_due, keys_left}
 use Rattle.sshcore.specs.EndpointParts.{ConfigData, Setup}
 use Rattle.sshcore.specs.Replies.{fault_of}
-use Rattle.sshcore.proofs.Below.{Below}
+use Rattle.sshcore.proofs.LawsBelow.{Below}
 use Rattle.sshcore.proofs.FeedLemmas.{stands_part, stands_refused, stands_unit, within}
 use Rattle.sshcore.proofs.HistoryLemmas.{Streams}
 use Rattle.sshcore.proofs.MoveLemmas.{keys_with, number_with}
@@ -34,11 +34,11 @@ reader_with None strict r = r
 reader_with (Some keys) strict r = record r { keys = Some keys; seq = if strict then 0 else r.seq }
 
 -- what is read after these units is read as the reader reads
-pub read_as : (m : SuiteData) (role : Side) (party : ConfigData) (units : Units) (version : List ℕ) (before : Units) (sizes rest piece : List ℕ) (r : PacketReaderData) → units ≡ version ∷ before
-    → r ≡ record { keys = keys_in m role party version before sizes; seq = number_in role party before; held = rest; fault = None }
-    → parsers m role party units sizes (rest ++ piece) ≡ ahead m r piece
-read_as m role party units version before sizes rest piece r e f =
-    ap (λ (us : Units). parsers m role party us sizes (rest ++ piece)) e ∙ sym (ap (λ (t : PacketReaderData). ahead m t piece) f)
+pub read_as : (m : SuiteData) (role : Side) (config : ConfigData) (units : Units) (version : List ℕ) (before : Units) (sizes rest piece : List ℕ) (r : PacketReaderData) → units ≡ version ∷ before
+    → r ≡ record { keys = keys_in m role config version before sizes; seq = number_in role config before; held = rest; fault = None }
+    → parsers m role config units sizes (rest ++ piece) ≡ ahead m r piece
+read_as m role config units version before sizes rest piece r e f =
+    ap (λ (us : Units). parsers m role config us sizes (rest ++ piece)) e ∙ sym (ap (λ (t : PacketReaderData). ahead m t piece) f)
 
 -- what is refused after unfinished bytes, is refused for some bytes of the piece
 pub refused_some : (parser : Parser) → IsIncremental parser → (rest piece : List ℕ) (used : ℕ) (r : Refusal) → parser rest ≡ unfinished → parser (rest ++ piece) ≡ refused r (length rest + used) → 0 < used

@@ -5,12 +5,12 @@ use Rattle.std.specs.Prelude.{◌&&◌, ◌||◌}
 use Rattle.std.proofs.lemmas.Bool.{and_parts, cases_Bool, eqb-true, ne_eqb, or_cases}
 use Rattle.sshneg.specs.declared.side.Side.{Side}
 use Rattle.sshneg.specs.declared.side.Side.TheVariants.{Client, Server}
-use Rattle.sshcore.specs.declared.table.Line.TheVariants as line
-use Rattle.sshcore.specs.declared.table.Phase.{Phase}
-use Rattle.sshcore.specs.declared.table.Phase.TheVariants as phase
+use Rattle.sshcore.specs.declared.phase_table.Disposition.TheVariants as disposition
+use Rattle.sshcore.specs.declared.phase_table.Phase.{Phase}
+use Rattle.sshcore.specs.declared.phase_table.Phase.TheVariants as phase
 use Rattle.sshcore.specs.Phases.{leaving}
 use Rattle.sshcore.specs.Standing.{LeavesNone}
-use Rattle.sshcore.specs.Table.{is_ignored, is_of_auth, is_of_method, is_ruled, is_unknown, line_by, takes_extensions}
+use Rattle.sshcore.specs.Table.{disposition_by, is_ignored, is_of_auth, is_of_method, is_ruled, is_unknown, takes_extensions}
 use Rattle.sshcore.proofs.TableLemmas.{in_range}
 
 -- the numbers that may come without leaving a phase: 2, 3, 4 and 7
@@ -65,8 +65,8 @@ extension n h =
 
 module _ (role : Side) (p : Phase) (strict waits : Bool) (n : ℕ) where
   -- no guess is due, and strictness rules nothing
-  free : (n == 1) ≡ false → is_ruled p strict ≡ false → line_by role p strict false waits n ≡ line.Reads → Reads role p false n
-  unfolding line_by
+  free : (n == 1) ≡ false → is_ruled p strict ≡ false → disposition_by role p strict false waits n ≡ disposition.Reads → Reads role p false n
+  unfolding disposition_by
   free one off = rw (one, off) (elim (cases_Bool (n == leaving role p)) [
     | inl h ↦ λ e. Leaves refl (eqb-true n (leaving role p) h)
     | inr h ↦ rw h (elim (cases_Bool (is_of_auth role p waits n)) [
@@ -84,15 +84,15 @@ module _ (role : Side) (p : Phase) (strict waits : Bool) (n : ℕ) where
     ])
   ])
 
-  ruled : (n == 1) ≡ false → is_ruled p strict ≡ true → line_by role p strict false waits n ≡ line.Reads → Reads role p false n
-  unfolding line_by
+  ruled : (n == 1) ≡ false → is_ruled p strict ≡ true → disposition_by role p strict false waits n ≡ disposition.Reads → Reads role p false n
+  unfolding disposition_by
   ruled one on = rw (one, on) (elim (cases_Bool (n == leaving role p)) [
     | inl h ↦ λ e. Leaves refl (eqb-true n (leaving role p) h)
     | inr h ↦ rw h (λ e. absurd cc)
   ])
 
-  due : (n == 1) ≡ false → line_by role p strict true waits n ≡ line.Reads → Reads role p true n
-  unfolding line_by
+  due : (n == 1) ≡ false → disposition_by role p strict true waits n ≡ disposition.Reads → Reads role p true n
+  unfolding disposition_by
   due one = rw one (elim (cases_Bool (is_ruled p strict)) [
     | inl on ↦ rw on (elim (cases_Bool (is_of_method n)) [
       | inl h ↦ rw h (λ e. absurd cc)
@@ -101,13 +101,13 @@ module _ (role : Side) (p : Phase) (strict waits : Bool) (n : ℕ) where
     | inr off ↦ rw off (λ e. absurd cc)
   ])
 
-  pub reads : (guess : Bool) → line_by role p strict guess waits n ≡ line.Reads → Reads role p guess n
+  pub reads : (guess : Bool) → disposition_by role p strict guess waits n ≡ disposition.Reads → Reads role p guess n
   reads guess e = elim (cases_Bool (n == 1)) [
     | inl one ↦ Closes (eqb-true n 1 one)
     | inr one ↦ by_guess guess one e
   ]
     where
-      by_guess : (g : Bool) → (n == 1) ≡ false → line_by role p strict g waits n ≡ line.Reads → Reads role p g n
+      by_guess : (g : Bool) → (n == 1) ≡ false → disposition_by role p strict g waits n ≡ disposition.Reads → Reads role p g n
       by_guess true one is = due one is
       by_guess false one is = elim (cases_Bool (is_ruled p strict)) [
         | inl on ↦ ruled one on is

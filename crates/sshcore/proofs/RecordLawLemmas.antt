@@ -26,13 +26,13 @@ use Rattle.sshcore.specs.RecordMade.{GoesOnFrom, IsAsFar, IsReading, IsRecorded,
 use Rattle.sshcore.specs.StateData.{StateData}
 use Rattle.sshcore.specs.Unread.{AskingStands}
 
-input_as : (m : SuiteData) (role : Side) (party : ConfigData) (units : Units) (sizes rest : List ℕ) (i j : Input) → IsSameInput (form_of party.reading role) i j
-    → IsInput m role party units sizes rest i → IsInput m role party units sizes rest j
-input_as m role party units sizes rest (input.Lines r) (input.Lines q) same is =
+input_as : (m : SuiteData) (role : Side) (config : ConfigData) (units : Units) (sizes rest : List ℕ) (i j : Input) → IsSameInput (form_of config.reading role) i j
+    → IsInput m role config units sizes rest i → IsInput m role config units sizes rest j
+input_as m role config units sizes rest (input.Lines r) (input.Lines q) same is =
     (is.0, subst (λ (p : Progress). StandsOpen (others_of role) rest p) (sym same.0) is.1, same.1)
-input_as m role party units sizes rest (input.Lines r) (input.Packets q) same is = absurd same
-input_as m role party units sizes rest (input.Packets r) (input.Lines q) same is = absurd same
-input_as m role party units sizes rest (input.Packets r) (input.Packets q) same is = (is.0, is.1, is.2, same ∙ is.3)
+input_as m role config units sizes rest (input.Lines r) (input.Packets q) same is = absurd same
+input_as m role config units sizes rest (input.Packets r) (input.Lines q) same is = absurd same
+input_as m role config units sizes rest (input.Packets r) (input.Packets q) same is = (is.0, is.1, is.2, same ∙ is.3)
 
 stands_as : (setup : Setup) (kept : StateData) (i j : Input) (h s : List ℕ) → IsSameInput (form_of setup.config.reading setup.role) i j
     → EndpointStands setup kept i h s → EndpointStands setup kept j h s
@@ -120,9 +120,9 @@ waits_at k received (Waits left line) stands = (left, line, refl)
 waits_at k received Finished stands = absurd stands
 waits_at k received (Refused code) stands = absurd stands
 
-reading_in : (m : SuiteData) (role : Side) (party : ConfigData) (units : Units) (sizes rest : List ℕ) (i : Input) → IsInput m role party units sizes rest i → IsReading i
-reading_in m role party units sizes rest (input.Lines r) is = waits_at (others_of role) rest r.state.progress is.1
-reading_in m role party units sizes rest (input.Packets r) is = tt
+reading_in : (m : SuiteData) (role : Side) (config : ConfigData) (units : Units) (sizes rest : List ℕ) (i : Input) → IsInput m role config units sizes rest i → IsReading i
+reading_in m role config units sizes rest (input.Lines r) is = waits_at (others_of role) rest r.state.progress is.1
+reading_in m role config units sizes rest (input.Packets r) is = tt
 
 -- an open endpoint with a history reads on
 pub reading_of : (setup : Setup) (kept : StateData) (i : Input) (v : Option WaitingData) (h s : List ℕ) → kept.end ≡ Open → AskingStands setup kept i v h s → IsReading i
@@ -131,12 +131,12 @@ reading_of setup kept i None h s is a =
 reading_of setup kept i (Some w) h s is a = subst IsReading (sym a.unread.2.is) tt
 
 -- what was made of a record goes on from there
-pub goes_on : {S : Type 0} (meaning : S → SuiteData) (role : Side) (party : ConfigData) (suite : S) (bytes : List ℕ) (result : Result (PausedData S) RecordFault)
-    → ((p : PausedData S) → IsRecorded meaning role party suite bytes p → IsMadeSo (λ q. IsSamePaused role party p q) result)
-    → GoesOnFrom meaning role party suite bytes result
-goes_on {S} meaning role party suite bytes result made = λ p d h s is fits after.
-    let setup = setup_with (meaning suite) d role party in
-    let reading = reading_of setup (kept_by party p) p.input p.waiting h s is.is_open after in
+pub goes_on : {S : Type 0} (meaning : S → SuiteData) (role : Side) (config : ConfigData) (suite : S) (bytes : List ℕ) (result : Result (PausedData S) RecordFault)
+    → ((p : PausedData S) → IsRecorded meaning role config suite bytes p → IsMadeSo (λ q. IsSamePaused role config p q) result)
+    → GoesOnFrom meaning role config suite bytes result
+goes_on {S} meaning role config suite bytes result made = λ p d h s is fits after.
+    let setup = setup_with (meaning suite) d role config in
+    let reading = reading_of setup (kept_by config p) p.input p.waiting h s is.is_open after in
     as_far setup h s p after result (made p (record { fits = fits; reading = reading; is_record = is }))
   where
     as_far : (setup : Setup) (h s : List ℕ) (p : PausedData S) → PausedAfter setup p h s → (result : Result (PausedData S) RecordFault)

@@ -70,15 +70,15 @@ same_input m form (input.Packets q) (input.Lines t) reads reading is = absurd is
 same_input m form (input.Packets q) (input.Packets t) reads reading is =
     is ∙ ap (λ (f : Option PacketFault). record (packet_reader_data q) { fault = f }) (sym reads.no_fault)
 
-asked_by : (m : SuiteData) (role : Side) (party : ConfigData) (old new : StateData) (i j : Input) (v : Option WaitingData) → old ≡ new → (IsIdle i → IsIdle j)
-    → IsAskedBy m role party old i v → IsAskedBy m role party new j v
-asked_by m role party old new i j None same idle asked = tt
-asked_by m role party old new i j (Some w) same idle asked = λ ongoing.
+asked_by : (m : SuiteData) (role : Side) (config : ConfigData) (old new : StateData) (i j : Input) (v : Option WaitingData) → old ≡ new → (IsIdle i → IsIdle j)
+    → IsAskedBy m role config old i v → IsAskedBy m role config new j v
+asked_by m role config old new i j None same idle asked = tt
+asked_by m role config old new i j (Some w) same idle asked = λ ongoing.
     let a = asked (subst (λ (k : StateData). IsOngoing k.end) (sym same) ongoing) in
-    let b = subst (λ (k : StateData). IsAsked m role party k i w) same a in
+    let b = subst (λ (k : StateData). IsAsked m role config k i w) same a in
     record { is_open = b.is_open; idle = idle b.idle; short = b.short; asks = b.asks; prepared = b.prepared }
 
-module _ {S : Type 0} (meaning : S → SuiteData) (role : Side) (party : ConfigData) (suite : S) (bytes : List ℕ) (p : PausedData S) (r : IsRecorded meaning role party suite bytes p) where
+module _ {S : Type 0} (meaning : S → SuiteData) (role : Side) (config : ConfigData) (suite : S) (bytes : List ℕ) (p : PausedData S) (r : IsRecorded meaning role config suite bytes p) where
   pub fits_state : FitsState (record_of p)
   fits_state = record {
     exchange = record {
@@ -111,14 +111,14 @@ module _ {S : Type 0} (meaning : S → SuiteData) (role : Side) (party : ConfigD
 
   -- and with the attempts that are left
   pub kept_so : (parts : RecordParts) (s t : State) → record_data parts ≡ record_of p → with_left [] (state_data s) ≡ state_in (record_data parts)
-      → (plan left : List AttemptData) → plan ≡ party.plan → left ≡ drop (length plan - parts.left) plan
-      → state_data t ≡ with_left (left_of parts.confirmed left) (state_data s) → state_data t ≡ kept_by party p
+      → (plan left : List AttemptData) → plan ≡ config.plan → left ≡ drop (length plan - parts.left) plan
+      → state_data t ≡ with_left (left_of parts.confirmed left) (state_data s) → state_data t ≡ kept_by config p
   kept_so parts s t told made plan left plan_is left_is is =
       is ∙ ap (λ (k : StateData). with_left (left_of parts.confirmed left) k) (kept_is parts s told made)
       ∙ ap (λ (l : List AttemptData). with_left l (state_data p.state)) (
       ap (λ (b : Bool). left_of b left) (ap (λ (x : RecordData). x.confirmed) told)
       ∙ ap (left_of p.state.confirmed) (left_is ∙ ap (λ (l : List AttemptData). drop (length l - parts.left) l) plan_is
-      ∙ ap (λ (n : ℕ). drop (length party.plan - n) party.plan) (ap (λ (x : RecordData). x.left) told)))
+      ∙ ap (λ (n : ℕ). drop (length config.plan - n) config.plan) (ap (λ (x : RecordData). x.left) told)))
 
   pub reader_so : (parts : RecordParts) → record_data parts ≡ record_of p → HasLine (reader_record parts.reader) × IsReaderOf (meaning suite) (reader_record parts.reader)
   reader_so parts told =
@@ -137,14 +137,14 @@ module _ {S : Type 0} (meaning : S → SuiteData) (role : Side) (party : ConfigD
   input_so parts form i told is = subst (λ (x : ReaderRecord). IsInputOf form x i) (ap (λ (x : RecordData). x.reader) told) is
 
   -- what waits is asked by what was made
-  pub asked_so : (kept : StateData) (form : LineForm) (i : Input) → kept ≡ kept_by party p → IsInputOf form (reader_of p.input) i
-      → IsAskedBy (meaning suite) role party kept i p.waiting
-  asked_so kept form i same is = asked_by (meaning suite) role party (kept_by party p) kept p.input i p.waiting (sym same) (idle_so form p.input i is) r.fits.fits.asked
+  pub asked_so : (kept : StateData) (form : LineForm) (i : Input) → kept ≡ kept_by config p → IsInputOf form (reader_of p.input) i
+      → IsAskedBy (meaning suite) role config kept i p.waiting
+  asked_so kept form i same is = asked_by (meaning suite) role config (kept_by config p) kept p.input i p.waiting (sym same) (idle_so form p.input i is) r.fits.fits.asked
 
-  pub kept_last : (parts : RecordParts) (t : State) → record_data parts ≡ record_of p → t.confirmed ≡ parts.confirmed → state_data t ≡ kept_by party p
-      → kept_with party.plan t parts.left ≡ kept_by party p
+  pub kept_last : (parts : RecordParts) (t : State) → record_data parts ≡ record_of p → t.confirmed ≡ parts.confirmed → state_data t ≡ kept_by config p
+      → kept_with config.plan t parts.left ≡ kept_by config p
   kept_last parts t told confirmed same =
-      ap (with_left (left_of t.confirmed (drop (length party.plan - parts.left) party.plan))) same
+      ap (with_left (left_of t.confirmed (drop (length config.plan - parts.left) config.plan))) same
       ∙ ap (λ (l : List AttemptData). with_left l (state_data p.state)) (
-      ap (λ (b : Bool). left_of b (drop (length party.plan - parts.left) party.plan)) (confirmed ∙ ap (λ (x : RecordData). x.confirmed) told)
-      ∙ ap (λ (n : ℕ). left_of p.state.confirmed (drop (length party.plan - n) party.plan)) (ap (λ (x : RecordData). x.left) told))
+      ap (λ (b : Bool). left_of b (drop (length config.plan - parts.left) config.plan)) (confirmed ∙ ap (λ (x : RecordData). x.confirmed) told)
+      ∙ ap (λ (n : ℕ). left_of p.state.confirmed (drop (length config.plan - n) config.plan)) (ap (λ (x : RecordData). x.left) told))

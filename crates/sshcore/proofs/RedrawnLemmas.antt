@@ -2,7 +2,7 @@
 
 use Rattle.sshcore.specs.declared.config_fault.ConfigFault.{ConfigFault}
 use Rattle.sshcore.specs.declared.config_fault.ConfigFault.TheVariants as fault
-use Rattle.sshcore.specs.declared.draws.Draws.{Draws}
+use Rattle.sshcore.specs.declared.config_draws.Draws.{Draws}
 use Rattle.sshcore.specs.ConfigParts.{ClientData, ServerData, SideData}
 use Rattle.sshcore.specs.ConfigRules.{ClientRule, HasBytes, HasLengths, IsClient, IsServer, ServerRule}
 use Rattle.sshcore.specs.Redrawn.{AreDraws, redrawn_client, redrawn_server, redrawn_side}

@@ -18,10 +18,10 @@ use Rattle.sshcore.specs.Attempts.{agreed_by}
 use Rattle.sshcore.specs.EndData.{Authenticated, EndData, Reply, fails, goes}
 use Rattle.sshcore.specs.Authenticating.{tried_key}
 use Rattle.sshcore.specs.StateData.{Carried, StateData}
-use Rattle.sshcore.specs.Known.{Known}
+use Rattle.sshcore.specs.KnownBefore.{Known}
 use Rattle.sshcore.specs.EndpointParts.{ConfigData, DecisionsData, KeyProof, ProofData}
 use Rattle.sshcore.specs.Requests.{completes, is_successful, method_reply, more_reply, query_answer, request_reply, tried_reply, would_do}
-use Rattle.sshcore.specs.Reached.{ReachedData, is_complete, kept_reached, reached_after_one, successful_reached}
+use Rattle.sshcore.specs.CompletedMethods.{CompletedMethodsData, completed_after_one, is_complete, kept_completed, successful_completed}
 use Rattle.sshcore.specs.Tries.{claimed_proof, is_decided, is_successful_at, is_verified, key_of, proof_in, tried_with}
 use Rattle.sshcore.proofs.ConfigLemmas.{BodyLaw}
 use Rattle.sshcore.proofs.ConfigOffers.{few_names}
@@ -58,27 +58,27 @@ signed_claim decide proof none true true false signed = none ∙ and_refused sig
 signed_claim decide proof none true true true true = refl
 signed_claim decide proof none true true true false = none
 
-module _ (m : SuiteData) (d : DecisionsData) (party : ConfigData) (session : List ℕ) (number : ℕ) (user service : List ℕ) where
+module _ (m : SuiteData) (d : DecisionsData) (config : ConfigData) (session : List ℕ) (number : ℕ) (user service : List ℕ) where
   -- a request is successful if what it claims holds, and the decision on that is yes
-  pub successful_claim : (method : MethodData) → is_successful_at m d party session number user service method
-      ≡ (is_verified m session user service method && is_decided d number user service (claimed_proof m party method))
+  pub successful_claim : (method : MethodData) → is_successful_at m d config session number user service method
+      ≡ (is_verified m session user service method && is_decided d number user service (claimed_proof m config method))
   unfolding proof_in claimed_proof
   successful_claim NoMethod = refl
   successful_claim (Password password) = refl
   successful_claim (PasswordChange old new) = refl
   successful_claim (PublicKey algorithm key signature) =
-      signed_claim (λ o. is_decided d number user service o) (KeyProof algorithm key) refl (is_in party.methods (codes "publickey")) (is_name algorithm) (m.can algorithm).signature
+      signed_claim (λ o. is_decided d number user service o) (KeyProof algorithm key) refl (is_in config.methods (codes "publickey")) (is_name algorithm) (m.can algorithm).signature
       (m.verify algorithm key (signed_text session user service algorithm key) signature)
   successful_claim (PublicKeyQuery algorithm key) = refl
   successful_claim (OtherMethod name fields) = refl
 
-  module _ (method : MethodData) (claim : Option ProofData) (claims : claim ≡ claimed_proof m party method) where
-    pub claim_refused : is_decided d number user service claim ≡ false → false ≡ is_successful_at m d party session number user service method
+  module _ (method : MethodData) (claim : Option ProofData) (claims : claim ≡ claimed_proof m config method) where
+    pub claim_refused : is_decided d number user service claim ≡ false → false ≡ is_successful_at m d config session number user service method
     claim_refused refused =
         and_refused (is_verified m session user service method) (is_decided d number user service claim) refused
         ∙ (ap (λ o. is_verified m session user service method && is_decided d number user service o) claims ∙ sym (successful_claim method))
 
-    pub claim_accepted : is_decided d number user service claim ≡ true → is_verified m session user service method ≡ is_successful_at m d party session number user service method
+    pub claim_accepted : is_decided d number user service claim ≡ true → is_verified m session user service method ≡ is_successful_at m d config session number user service method
     claim_accepted accepted =
         and_agreed (is_verified m session user service method) (is_decided d number user service claim) accepted
         ∙ (ap (λ o. is_verified m session user service method && is_decided d number user service o) claims ∙ sym (successful_claim method))
@@ -94,7 +94,7 @@ few_texts body view texts names same short =
 
 -- what a server finds by this name among its services
 abbrev pub FindsService : ConfigData → List ℕ → Option (Bor (List ℕ)) → Type 0
-FindsService party name found = option_map (λ (own : Bor (List ℕ)). own.now) found ≡ (if is_in party.services name then Some name else None)
+FindsService config name found = option_map (λ (own : Bor (List ℕ)). own.now) found ≡ (if is_in config.services name then Some name else None)
 
 -- it has none of them, or this one
 pub missed : (has : Bool) (name : List ℕ) (found : Option (Bor (List ℕ))) → option_map (λ (own : Bor (List ℕ)). own.now) found ≡ (if has then Some name else None)
@@ -107,84 +107,84 @@ pub had : (has : Bool) (name : List ℕ) (found : Option (Bor (List ℕ))) (own 
 had true name found own e is = (refl, cc)
 had false name found own e is = absurd cc
 
-module _ (m : SuiteData) (d : DecisionsData) (party : ConfigData) (known : Known) (user service : List ℕ) (method : MethodData) (found : Option (Bor (List ℕ))) (e : FindsService party service found) where
+module _ (m : SuiteData) (d : DecisionsData) (config : ConfigData) (known : Known) (user service : List ℕ) (method : MethodData) (found : Option (Bor (List ℕ))) (e : FindsService config service found) where
   -- the answer to a request of a service that the server doesn't have
-  pub reply_elsewhere : found ≡ None → fails fault.Service ≡ request_reply m d party known user service method
+  pub reply_elsewhere : found ≡ None → fails fault.Service ≡ request_reply m d config known user service method
   unfolding request_reply
   reply_elsewhere is =
-      let off : is_in party.services service ≡ false = missed (is_in party.services service) service found e is in
+      let off : is_in config.services service ≡ false = missed (is_in config.services service) service found e is in
       rw off refl
 
   module _ (own : Bor (List ℕ)) (is : found ≡ Some own) where
-    both : (is_in party.services service ≡ true) × (own.now ≡ service)
-    both = had (is_in party.services service) service found own e is
+    both : (is_in config.services service ≡ true) × (own.now ≡ service)
+    both = had (is_in config.services service) service found own e is
 
     -- of a service that it has, to a query
     pub reply_query : (algorithm key : List ℕ) → method ≡ PublicKeyQuery algorithm key
-        → more_reply party known (query_answer m d party known user own.now algorithm key) ≡ request_reply m d party known user service method
+        → more_reply config known (query_answer m d config known user own.now algorithm key) ≡ request_reply m d config known user service method
     unfolding request_reply
     reply_query algorithm key query = rw (query, both.0, both.1) refl
 
     -- to another request
-    pub reply_other : (successful : Bool) → (method_reply m d party known user service method ≡ tried_reply party known user service method (is_successful m d party known user service method))
-        → is_successful m d party known user own.now method ≡ successful
-        → tried_reply party known user own.now method successful ≡ request_reply m d party known user service method
+    pub reply_other : (successful : Bool) → (method_reply m d config known user service method ≡ tried_reply config known user service method (is_successful m d config known user service method))
+        → is_successful m d config known user own.now method ≡ successful
+        → tried_reply config known user own.now method successful ≡ request_reply m d config known user service method
     unfolding request_reply
     reply_other successful other is_so =
-        let here : is_successful m d party known user service method ≡ successful = rw both.1 at is_so in
+        let here : is_successful m d config known user service method ≡ successful = rw both.1 at is_so in
         rw (both.0, other, here, both.1) refl
 
 -- the answer to a request that ends nothing, as the last that is granted and before it
-pub more_last : (party : ConfigData) (known : Known) (x : MessageData) → nat_le party.tries known.request ≡ true → fails fault.TooManyTries ≡ more_reply party known x
-more_last party known x last = rw last refl
+pub more_last : (config : ConfigData) (known : Known) (x : MessageData) → nat_le config.tries known.request ≡ true → fails fault.TooManyTries ≡ more_reply config known x
+more_last config known x last = rw last refl
 
-pub more_goes : (party : ConfigData) (known : Known) (x : MessageData) → nat_le party.tries known.request ≡ false → goes (written_message x ∷ []) ≡ more_reply party known x
-more_goes party known x more = rw more refl
+pub more_goes : (config : ConfigData) (known : Known) (x : MessageData) → nat_le config.tries known.request ≡ false → goes (written_message x ∷ []) ≡ more_reply config known x
+more_goes config known x more = rw more refl
 
 -- a request that isn't a query is tried
-pub tried_method : (m : SuiteData) (d : DecisionsData) (party : ConfigData) (known : Known) (user service : List ℕ) (method : MethodData)
+pub tried_method : (m : SuiteData) (d : DecisionsData) (config : ConfigData) (known : Known) (user service : List ℕ) (method : MethodData)
     → ((algorithm key : List ℕ) → method ≡ PublicKeyQuery algorithm key → ⊥)
-    → method_reply m d party known user service method ≡ tried_reply party known user service method (is_successful m d party known user service method)
-tried_method m d party known user service NoMethod none = refl
-tried_method m d party known user service (Password password) none = refl
-tried_method m d party known user service (PasswordChange old new) none = refl
-tried_method m d party known user service (PublicKey algorithm key signature) none = refl
-tried_method m d party known user service (PublicKeyQuery algorithm key) none = absurd (none algorithm key refl)
-tried_method m d party known user service (OtherMethod name fields) none = refl
+    → method_reply m d config known user service method ≡ tried_reply config known user service method (is_successful m d config known user service method)
+tried_method m d config known user service NoMethod none = refl
+tried_method m d config known user service (Password password) none = refl
+tried_method m d config known user service (PasswordChange old new) none = refl
+tried_method m d config known user service (PublicKey algorithm key signature) none = refl
+tried_method m d config known user service (PublicKeyQuery algorithm key) none = absurd (none algorithm key refl)
+tried_method m d config known user service (OtherMethod name fields) none = refl
 
 -- what is kept besides changes no answer to a query
-module _ (m : SuiteData) (d : DecisionsData) (party : ConfigData) (k other : Known) (reached : ReachedData) (same : other ≡ record k { reached = reached }) (user service algorithm key : List ℕ) where
-  pub query_refused : would_do m d party other user service algorithm key ≡ false
-      → more_reply party other (UserauthFailure party.methods false) ≡ more_reply party k (query_answer m d party k user service algorithm key)
+module _ (m : SuiteData) (d : DecisionsData) (config : ConfigData) (k other : Known) (completed : CompletedMethodsData) (same : other ≡ record k { completed = completed }) (user service algorithm key : List ℕ) where
+  pub query_refused : would_do m d config other user service algorithm key ≡ false
+      → more_reply config other (UserauthFailure config.methods false) ≡ more_reply config k (query_answer m d config k user service algorithm key)
   query_refused off =
-      let none : would_do m d party k user service algorithm key ≡ false = ap (λ (x : Known). would_do m d party x user service algorithm key) (sym same) ∙ off in
-      ap (λ (x : Known). more_reply party x (UserauthFailure party.methods false)) same ∙ rw none refl
+      let none : would_do m d config k user service algorithm key ≡ false = ap (λ (x : Known). would_do m d config x user service algorithm key) (sym same) ∙ off in
+      ap (λ (x : Known). more_reply config x (UserauthFailure config.methods false)) same ∙ rw none refl
 
-  pub query_confirmed : (name : List ℕ) → name ≡ algorithm → would_do m d party other user service algorithm key ≡ true
-      → more_reply party other (UserauthPkOk name key) ≡ more_reply party k (query_answer m d party k user service algorithm key)
+  pub query_confirmed : (name : List ℕ) → name ≡ algorithm → would_do m d config other user service algorithm key ≡ true
+      → more_reply config other (UserauthPkOk name key) ≡ more_reply config k (query_answer m d config k user service algorithm key)
   query_confirmed name e on =
-      let would : would_do m d party k user service algorithm key ≡ true = ap (λ (x : Known). would_do m d party x user service algorithm key) (sym same) ∙ on in
-      ap (λ (x : Known). more_reply party x (UserauthPkOk name key)) same ∙ rw (would, e) refl
+      let would : would_do m d config k user service algorithm key ≡ true = ap (λ (x : Known). would_do m d config x user service algorithm key) (sym same) ∙ on in
+      ap (λ (x : Known). more_reply config x (UserauthPkOk name key)) same ∙ rw (would, e) refl
 
 -- what is kept after a successful request
-module _ (party : ConfigData) (k mid other : Known) (user service : List ℕ) (method : MethodData)
-    (forgot : mid ≡ record k { reached = kept_reached k.reached (record { user = user; service = service; successful = None }) })
-    (reached : other ≡ record mid { reached = successful_reached mid.reached (tried_with user service method true) (Some (method_name method)) }) where
-  successful_known : other ≡ record k { reached = reached_after_one k.reached (tried_with user service method true) }
-  successful_known = reached ∙ ap (λ (x : Known). record x { reached = successful_reached x.reached (tried_with user service method true) (Some (method_name method)) }) forgot
+module _ (config : ConfigData) (k mid other : Known) (user service : List ℕ) (method : MethodData)
+    (forgot : mid ≡ record k { completed = kept_completed k.completed (record { user = user; service = service; successful = None }) })
+    (completed : other ≡ record mid { completed = successful_completed mid.completed (tried_with user service method true) (Some (method_name method)) }) where
+  successful_known : other ≡ record k { completed = completed_after_one k.completed (tried_with user service method true) }
+  successful_known = completed ∙ ap (λ (x : Known). record x { completed = successful_completed x.completed (tried_with user service method true) (Some (method_name method)) }) forgot
 
-  successful_complete : (b : Bool) → is_complete party.required other.reached ≡ b → completes party k user service method true ≡ b
-  successful_complete b e = ap (λ (x : Known). is_complete party.required x.reached) (sym successful_known) ∙ e
+  successful_complete : (b : Bool) → is_complete config.required other.completed ≡ b → completes config k user service method true ≡ b
+  successful_complete b e = ap (λ (x : Known). is_complete config.required x.completed) (sym successful_known) ∙ e
 
-  pub successful_done : is_complete party.required other.reached ≡ true
-      → ◌≡◌ {A = Reply} (record { answers = written_message UserauthSuccess ∷ []; end = Authenticated (agreed_by other user service) }) (tried_reply party k user service method true)
+  pub successful_done : is_complete config.required other.completed ≡ true
+      → ◌≡◌ {A = Reply} (record { answers = written_message UserauthSuccess ∷ []; end = Authenticated (agreed_by other user service) }) (tried_reply config k user service method true)
   successful_done done =
       ap (λ (x : Known). record { answers = written_message UserauthSuccess ∷ []; end = Authenticated (agreed_by x user service) }) successful_known
       ∙ sym (rw (successful_complete true done) refl)
 
-  pub successful_more : is_complete party.required other.reached ≡ false → more_reply party other (UserauthFailure party.methods true) ≡ tried_reply party k user service method true
+  pub successful_more : is_complete config.required other.completed ≡ false → more_reply config other (UserauthFailure config.methods true) ≡ tried_reply config k user service method true
   successful_more none =
-      ap (λ (x : Known). more_reply party x (UserauthFailure party.methods true)) successful_known ∙ sym (rw (successful_complete false none) refl)
+      ap (λ (x : Known). more_reply config x (UserauthFailure config.methods true)) successful_known ∙ sym (rw (successful_complete false none) refl)
 
 -- a method of the code that is no query
 pub no_query : (x : message_method.Method) → ((algorithm key : Bor (List ℕ)) → x ≡ message_method.TheVariants.PublicKeyQuery algorithm key → ⊥)
@@ -223,13 +223,13 @@ module _ (old new : StateData) where
       → new ≡ record old { end = new.end; known = known; carried = carried; sending = new.sending }
   with_key known carried same e = with_end known e ∙ ap (λ (x : Carried). record old { end = new.end; known = known; carried = x; sending = new.sending }) same
 
-module _ (m : SuiteData) (d : DecisionsData) (party : ConfigData) (known : Known) (user service own : List ℕ) (method : MethodData) (same : own ≡ service) where
+module _ (m : SuiteData) (d : DecisionsData) (config : ConfigData) (known : Known) (user service own : List ℕ) (method : MethodData) (same : own ≡ service) where
   -- a query, which is never successful
   pub query_tried : (algorithm key : List ℕ) → method ≡ PublicKeyQuery algorithm key
-      → tried_with user own (PublicKeyQuery algorithm key) false ≡ tried_with user service method (is_successful m d party known user service method)
+      → tried_with user own (PublicKeyQuery algorithm key) false ≡ tried_with user service method (is_successful m d config known user service method)
   unfolding proof_in
   query_tried algorithm key query = rw (same, query) refl
 
   -- and any other
-  pub other_tried : (successful : Bool) → is_successful m d party known user own method ≡ successful → tried_with user own method successful ≡ tried_with user service method (is_successful m d party known user service method)
-  other_tried successful is_so = let here : is_successful m d party known user service method ≡ successful = rw same at is_so in rw (same, here) refl
+  pub other_tried : (successful : Bool) → is_successful m d config known user own method ≡ successful → tried_with user own method successful ≡ tried_with user service method (is_successful m d config known user service method)
+  other_tried successful is_so = let here : is_successful m d config known user service method ≡ successful = rw same at is_so in rw (same, here) refl

@@ -2,14 +2,14 @@
 
 use Rattle.std.proofs.Common.{◌≡◌, ℕ, ◌+◌, ◌==◌, Bool, true, false, cond, List, [], ◌∷◌, ◌++◌, length, length-append, refl, ap, ◌∙◌}
 use Rattle.std.specs.Prelude.{◌%◌, ◌^◌}
-use Rattle.sshmsg.specs.Numbers.{kind}
+use Rattle.sshmsg.specs.Numbers.{message_number}
 use Rattle.sshpacket.specs.Places.{after_first, stands}
 use Rattle.sshpacket.specs.Stream.{Units}
 use Rattle.sshpacket.proofs.Places.{after-push, stands-push}
 use Rattle.sshcore.specs.Counting.{is_newkeys, number_by, number_out, switched_out}
 use Rattle.sshcore.proofs.CountingLemmas.{counted, mod_more, switched}
 
-pub switched_push : (sent : Units) (a : List ℕ) → switched_out (sent ++ a ∷ []) ≡ cond (switched_out sent) true (kind a == 21)
+pub switched_push : (sent : Units) (a : List ℕ) → switched_out (sent ++ a ∷ []) ≡ cond (switched_out sent) true (message_number a == 21)
 unfolding switched_out
 switched_push sent a = stands-push is_newkeys [] sent a
 
@@ -24,7 +24,7 @@ since_out sent a b e =
     ap length (after-push is_newkeys [] sent a) ∙ length_one (stands is_newkeys [] sent) (after_first is_newkeys [] sent) a
     ∙ ap (λ (x : Bool). cond x (length (after_first is_newkeys [] sent) + 1) 0) e
 
-number_by_cases : (strict : Bool) (sent : Units) (a : List ℕ) (b c : Bool) → switched_out sent ≡ b → (kind a == 21) ≡ c
+number_by_cases : (strict : Bool) (sent : Units) (a : List ℕ) (b c : Bool) → switched_out sent ≡ b → (message_number a == 21) ≡ c
     → number_out strict (sent ++ a ∷ []) ≡ cond b ((number_out strict sent + 1) % 2 ^ 32) (cond c (cond strict 0 ((number_out strict sent + 1) % 2 ^ 32)) ((number_out strict sent + 1) % 2 ^ 32))
 unfolding number_out
 number_by_cases strict sent a b c e f =
@@ -41,8 +41,8 @@ number_by_cases strict sent a b c e f =
 
 pub number_next : (strict : Bool) (sent : Units) (a : List ℕ)
     → number_out strict (sent ++ a ∷ []) ≡ cond (switched_out sent) ((number_out strict sent + 1) % 2 ^ 32)
-    (cond (kind a == 21) (cond strict 0 ((number_out strict sent + 1) % 2 ^ 32)) ((number_out strict sent + 1) % 2 ^ 32))
-number_next strict sent a = number_by_cases strict sent a (switched_out sent) (kind a == 21) refl refl
+    (cond (message_number a == 21) (cond strict 0 ((number_out strict sent + 1) % 2 ^ 32)) ((number_out strict sent + 1) % 2 ^ 32))
+number_next strict sent a = number_by_cases strict sent a (switched_out sent) (message_number a == 21) refl refl
 
 pub none_sent : (strict : Bool) → (switched_out [] ≡ false) × (number_out strict [] ≡ 0)
 unfolding switched_out number_out

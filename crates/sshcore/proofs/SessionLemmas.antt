@@ -10,7 +10,7 @@ use Rattle.sshwire.specs.LineReaderData.{PeerLineReaderData}
 use Rattle.sshmsg.specs.declared.fault.MsgFault.{MsgFault}
 use Rattle.sshmsg.specs.MessageData.{KexEcdhInit, KexEcdhReply, KexdhInit, KexdhReply, MessageData, NewKeys, ServiceRequest, method_name}
 use Rattle.sshmsg.specs.Messages.{message_in}
-use Rattle.sshmsg.specs.Numbers.{kind, number_of}
+use Rattle.sshmsg.specs.Numbers.{message_number, number_of}
 use Rattle.sshmsg.specs.Written.{written_message}
 use Rattle.sshneg.specs.declared.side.Side.{Side}
 use Rattle.sshneg.specs.declared.side.Side.TheVariants.{Client, Server}
@@ -36,9 +36,9 @@ use Rattle.sshcore.specs.declared.input.Input.TheVariants as input
 use Rattle.sshcore.specs.declared.session.Accepted.{Accepted}
 use Rattle.sshcore.specs.declared.session.Session.{Session}
 use Rattle.sshcore.specs.declared.session.UserKey.{UserKey}
-use Rattle.sshcore.specs.declared.table.Line.{Line}
-use Rattle.sshcore.specs.declared.table.Phase.{Phase}
-use Rattle.sshcore.specs.declared.table.Phase.TheVariants as phase
+use Rattle.sshcore.specs.declared.phase_table.Disposition.{Disposition}
+use Rattle.sshcore.specs.declared.phase_table.Phase.{Phase}
+use Rattle.sshcore.specs.declared.phase_table.Phase.TheVariants as phase
 use Rattle.sshcore.specs.Authenticated.{IsAuthenticated}
 use Rattle.sshcore.specs.Before.{expects_guess, kept, stood, strict_at}
 use Rattle.sshcore.specs.Counting.{is_newkeys, number_in, number_out, switched_out}
@@ -47,27 +47,27 @@ use Rattle.sshcore.specs.EndData.{AgreedData, Authenticated, EndData, Failed, Op
 use Rattle.sshcore.specs.Exchange.{answer_with, exchange_at, exchange_with, keys_at, secret_of}
 use Rattle.sshcore.specs.Inputs.{AsReceived, CutOff, EndpointStands, IsInside, Left, StandsSo}
 use Rattle.sshcore.specs.StateData.{StateData, user_key_data}
-use Rattle.sshcore.specs.Known.{Known, known_at, waits_at}
+use Rattle.sshcore.specs.KnownBefore.{Known, known_at, waits_at}
 use Rattle.sshcore.specs.Output.{Sending}
 use Rattle.sshcore.specs.EndpointParts.{ConfigData, DecisionsData, Setup, UserKeyData, setup_with}
 use Rattle.sshcore.specs.Phases.{leaving, past_exchange}
-use Rattle.sshcore.specs.Reached.{ReachedData, Tried, is_successful_for, nothing_reached, reached_after, run_of}
-use Rattle.sshcore.specs.Replies.{Ends, Replies, allowed, answers_at, end_at, ended, goes_on, line_reply, read_reply, refusal_reply}
+use Rattle.sshcore.specs.CompletedMethods.{CompletedMethodsData, Tried, completed_after, is_successful_for, none_completed, run_of}
+use Rattle.sshcore.specs.Replies.{Ends, Replies, allowed, answers_at, disposition_reply, end_at, ended, goes_on, read_reply, refusal_reply}
 use Rattle.sshcore.specs.Sessions.{AcceptedBy, HasAccepted, IsSession}
 use Rattle.sshcore.specs.Standing.{Tied}
-use Rattle.sshcore.specs.Table.{line_by}
+use Rattle.sshcore.specs.Table.{disposition_by}
 use Rattle.sshcore.specs.Tries.{last_key, successful_keys_at, tried_at, tried_with}
 use Rattle.sshcore.specs.Signatures.{signature_by}
 use Rattle.sshcore.specs.Work.{answered_by, init_reply, making, reply_in, reply_reply, signed_by, signed_reply, trusted_by, userauth, work, told_by}
 use Rattle.sshcore.proofs.IgnoredLimitLemmas.{always_allowed, exchange_heeded}
 use Rattle.sshcore.proofs.AuthenticatedLemmas.{auth_switched, authenticated, ends_tried, last_tied, none_refused}
-use Rattle.sshcore.proofs.Below.{Below}
+use Rattle.sshcore.proofs.LawsBelow.{Below}
 use Rattle.sshcore.proofs.PhaseLemmas.{kept_dropped, stood_push, tied_phase}
-use Rattle.sshcore.proofs.ReachedLemmas.{password_now, publickey_now}
+use Rattle.sshcore.proofs.CompletedMethodsLemmas.{password_now, publickey_now}
 use Rattle.sshcore.proofs.StreamLemmas.{switched_append}
 use Rattle.sshcore.proofs.StrictLaws.{begun_none, not_open, stands}
 use Rattle.sshcore.proofs.StrictStages.{Follows}
-use Rattle.sshcore.proofs.StrictSteps.{Fails, Goes, Off, Step, line_is, step}
+use Rattle.sshcore.proofs.StrictSteps.{Fails, Goes, Off, Step, disposition_is, step}
 use Rattle.sshcore.proofs.TableLemmas.{Closing, Dropped, Leaving, OffGuess, OffPhase, Sees, Staying, Useless, sees}
 
 -- NEWKEYS is sent
@@ -84,22 +84,22 @@ switches_last answers more on = switched_append answers more ∙ rw on (by (swit
     by true = refl
     by false = refl
 
-module _ (m : SuiteData) (d : DecisionsData) (party : ConfigData) (known : Known) (x : ExchangeData) where
+module _ (m : SuiteData) (d : DecisionsData) (config : ConfigData) (known : Known) (x : ExchangeData) where
   -- an exchange message that leaves the endpoint open is answered by NEWKEYS
-  hashed_switches : (found : Option (List ℕ)) → (signed_reply party known x found).end ≡ Open → Switches (signed_reply party known x found).answers
+  hashed_switches : (found : Option (List ℕ)) → (signed_reply config known x found).end ≡ Open → Switches (signed_reply config known x found).answers
   unfolding switched_out written_message
   hashed_switches None is_open = absurd cc
   hashed_switches (Some found) is_open = by known.shares found
     where
-      by : (form : ShareForm) (signature : List ℕ) → Switches (written_message (reply_in form x.host_key x.server_share signature) ∷ written_message NewKeys ∷ told_by party known)
+      by : (form : ShareForm) (signature : List ℕ) → Switches (written_message (reply_in form x.host_key x.server_share signature) ∷ written_message NewKeys ∷ told_by config known)
       by Mpint signature = refl
       by OctetString signature = refl
       by Hybrid signature = refl
 
-  answered_switches : (r : Option ResponseData) → (answered_by m d party known x r).end ≡ Open → Switches (answered_by m d party known x r).answers
+  answered_switches : (r : Option ResponseData) → (answered_by m d config known x r).end ≡ Open → Switches (answered_by m d config known x r).answers
   answered_switches None is_open = absurd cc
   answered_switches (Some answer) is_open =
-      hashed_switches (signature_by m d 0 known.algorithms.host_key (secret_of party.host_keys known.algorithms.host_key) (exchange_hash m known.algorithms.kex x)) is_open
+      hashed_switches (signature_by m d 0 known.algorithms.host_key (secret_of config.host_keys known.algorithms.host_key) (exchange_hash m known.algorithms.kex x)) is_open
 
   signed_switches : (signature : List ℕ) (r : Option ResponseData) → (signed_by m known x signature r).end ≡ Open → Switches (signed_by m known x signature r).answers
   unfolding switched_out written_message
@@ -135,11 +135,11 @@ module _ (below : Below) (setup : Setup) where
   exchange_switches known _ (inl e) is_open = absurd (omega (arith, e))
   exchange_switches known _ (inr e) is_open = absurd (omega (arith, e))
 
-  read_switches : (known : Known) (payload : List ℕ) (r : Result MessageData MsgFault) → message_in known.shares payload ≡ r → (kind payload ≡ 30) ⊎ (kind payload ≡ 31)
-      → (read_reply setup known (kind payload) r).end ≡ Open → Switches (read_reply setup known (kind payload) r).answers
+  read_switches : (known : Known) (payload : List ℕ) (r : Result MessageData MsgFault) → message_in known.shares payload ≡ r → (message_number payload ≡ 30) ⊎ (message_number payload ≡ 31)
+      → (read_reply setup known (message_number payload) r).end ≡ Open → Switches (read_reply setup known (message_number payload) r).answers
   read_switches known payload (Ok c) e two is_open = exchange_switches known c (numbered two) is_open
     where
-      numbered : (kind payload ≡ 30) ⊎ (kind payload ≡ 31) → (number_of c ≡ 30) ⊎ (number_of c ≡ 31)
+      numbered : (message_number payload ≡ 30) ⊎ (message_number payload ≡ 31) → (number_of c ≡ 30) ⊎ (number_of c ≡ 31)
       numbered (inl n) = inl (sym (below.numbers known.shares payload c e) ∙ n)
       numbered (inr n) = inr (sym (below.numbers known.shares payload c e) ∙ n)
   read_switches known payload (Err f) e two is_open = absurd cc
@@ -153,22 +153,22 @@ module _ (below : Below) (setup : Setup) where
   not_closing Server n e one = omega arith
 
   module _ (version : List ℕ) (before : Units) (payload : List ℕ) where
-    by_line : (known : Known) (packet : ℕ) (p : Phase) (l : Line) → Sees setup.role p (strict_at setup.role setup.config before) (expects_guess setup.role setup.config.offer before) (kind payload) l
-        → kept setup.role setup.config.offer (leaving setup.role phase.Exchange) before payload ≡ true → kind payload ≡ leaving setup.role phase.Exchange
-        → (line_reply setup known packet l payload).end ≡ Open → Switches (line_reply setup known packet l payload).answers
-    unfolding line_reply
-    by_line known packet p l (Closing one is) here number is_open = absurd (not_closing setup.role (kind payload) number one)
-    by_line known packet p l (Dropped one due r is) here number is_open = absurd (true≢false (sym here ∙ kept_dropped setup.role setup.config.offer before payload (leaving setup.role phase.Exchange) due one))
-    by_line known packet p l (OffGuess one due r out is) here number is_open = absurd (failed_open (fault.Strict (kind payload)) (rw is at is_open))
-    by_line known packet p l (OffPhase one none r out is) here number is_open = absurd (failed_open (fault.Strict (kind payload)) (rw is at is_open))
-    by_line known packet p l (Useless none off out is) here number is_open = absurd (failed_open (fault.Unexpected (kind payload)) (rw is at is_open))
-    by_line known packet p l (Staying none off out quiet e) here number is_open =
-        absurd (true≢false (sym (eq-eqb (kind payload) (leaving setup.role phase.Exchange) number) ∙ quiet.leaves.exchange))
-    by_line known packet p l (Leaving none at is) here number is_open =
-        let r : Reply = read_reply setup known (kind payload) (message_in known.shares payload) in
-        let same : allowed known payload r ≡ r = always_allowed known payload r (exchange_heeded setup.role (kind payload) number) in
+    by_disposition : (known : Known) (packet : ℕ) (p : Phase) (l : Disposition) → Sees setup.role p (strict_at setup.role setup.config before) (expects_guess setup.role setup.config.offer before) (message_number payload) l
+        → kept setup.role setup.config.offer (leaving setup.role phase.Exchange) before payload ≡ true → message_number payload ≡ leaving setup.role phase.Exchange
+        → (disposition_reply setup known packet l payload).end ≡ Open → Switches (disposition_reply setup known packet l payload).answers
+    unfolding disposition_reply
+    by_disposition known packet p l (Closing one is) here number is_open = absurd (not_closing setup.role (message_number payload) number one)
+    by_disposition known packet p l (Dropped one due r is) here number is_open = absurd (true≢false (sym here ∙ kept_dropped setup.role setup.config.offer before payload (leaving setup.role phase.Exchange) due one))
+    by_disposition known packet p l (OffGuess one due r out is) here number is_open = absurd (failed_open (fault.Strict (message_number payload)) (rw is at is_open))
+    by_disposition known packet p l (OffPhase one none r out is) here number is_open = absurd (failed_open (fault.Strict (message_number payload)) (rw is at is_open))
+    by_disposition known packet p l (Useless none off out is) here number is_open = absurd (failed_open (fault.Unexpected (message_number payload)) (rw is at is_open))
+    by_disposition known packet p l (Staying none off out quiet e) here number is_open =
+        absurd (true≢false (sym (eq-eqb (message_number payload) (leaving setup.role phase.Exchange) number) ∙ quiet.leaves.exchange))
+    by_disposition known packet p l (Leaving none at is) here number is_open =
+        let r : Reply = read_reply setup known (message_number payload) (message_in known.shares payload) in
+        let same : allowed known payload r ≡ r = always_allowed known payload r (exchange_heeded setup.role (message_number payload) number) in
         rw is (subst (λ (x : Reply). Switches x.answers) (sym same)
-        (read_switches known payload (message_in known.shares payload) refl (exchange_number setup.role (kind payload) number) (subst (λ (x : Reply). x.end ≡ Open) same (rw is at is_open))))
+        (read_switches known payload (message_in known.shares payload) refl (exchange_number setup.role (message_number payload) number) (subst (λ (x : Reply). x.end ≡ Open) same (rw is at is_open))))
 
     -- where the exchange message is received, and the endpoint stays open, NEWKEYS is sent
     received_switches : (p : Phase) → Tied setup.role setup.config.offer before p → end_at setup (version ∷ before) payload ≡ Open
@@ -177,13 +177,13 @@ module _ (below : Below) (setup : Setup) where
     received_switches p t is_open off on =
         let k = leaving setup.role phase.Exchange in
         let here : kept setup.role setup.config.offer k before payload ≡ true = sym (stood_push setup.role setup.config.offer before payload k ∙ rw off refl) ∙ on in
-        let l = line_by setup.role p (strict_at setup.role setup.config before) (expects_guess setup.role setup.config.offer before) (waits_at setup.role setup.config before) (kind payload) in
-        let same = line_is below setup version before payload p t in
+        let l = disposition_by setup.role p (strict_at setup.role setup.config before) (expects_guess setup.role setup.config.offer before) (waits_at setup.role setup.config before) (message_number payload) in
+        let same = disposition_is below setup version before payload p t in
         let known = known_at setup version before in
-        ap (λ (l : Line). switched_out (line_reply setup known (number_in setup.role setup.config before) l payload).answers) (sym same)
-        ∙ by_line known (number_in setup.role setup.config before) p l (sees setup.role p (strict_at setup.role setup.config before) (waits_at setup.role setup.config before) (kind payload) (expects_guess setup.role setup.config.offer before)) here
-        (eqb-true (kind payload) k (and_parts _ _ here).0)
-        (ap (λ (l : Line). (line_reply setup known (number_in setup.role setup.config before) l payload).end) same ∙ is_open)
+        ap (λ (l : Disposition). switched_out (disposition_reply setup known (number_in setup.role setup.config before) l payload).answers) (sym same)
+        ∙ by_disposition known (number_in setup.role setup.config before) p l (sees setup.role p (strict_at setup.role setup.config before) (waits_at setup.role setup.config before) (message_number payload) (expects_guess setup.role setup.config.offer before)) here
+        (eqb-true (message_number payload) k (and_parts _ _ here).0)
+        (ap (λ (l : Disposition). (disposition_reply setup known (number_in setup.role setup.config before) l payload).end) same ∙ is_open)
 
   -- an endpoint that stays open while the exchange message is received has sent NEWKEYS
   open_switches : (version : List ℕ) (before us : Units) (p : Phase) → Follows setup.role setup.config before p → EachPlace (λ b u. end_at setup b u ≡ Open) (version ∷ before) us
@@ -201,7 +201,7 @@ module _ (below : Below) (setup : Setup) where
       later : Step setup.role setup.config before u (end_at setup (version ∷ before) u) → ((q : Phase) → Follows setup.role setup.config (before ++ u ∷ []) q → Switches (flat_places (answers_at setup) (version ∷ (before ++ u ∷ [])) us))
           → Switches (flat_places (answers_at setup) (version ∷ (before ++ u ∷ [])) us)
       later (Goes q g) next = next q g
-      later (Off e) next = absurd (not_open (kind u) _ e each.0)
+      later (Off e) next = absurd (not_open (message_number u) _ e each.0)
       later (Fails shut c) next = absurd (shut each.0)
 
   none_stood : stood setup.role setup.config.offer (leaving setup.role phase.Exchange) [] ≡ false
@@ -228,15 +228,15 @@ module _ (below : Below) (setup : Setup) where
           (open_switches version [] before phase.KexInit (begun_none below setup) stays.1 none_stood tied.exchange))
 
 -- What an endpoint keeps that ended authenticated: the keys of both directions, and the numbers of the next packets.
-pub record HandsOver (m : SuiteData) (role : Side) (party : ConfigData) (units answers : Units) (sizes : List ℕ) (reading : PacketReaderData) (sending : Sending) : Type 0 where
+pub record HandsOver (m : SuiteData) (role : Side) (config : ConfigData) (units answers : Units) (sizes : List ℕ) (reading : PacketReaderData) (sending : Sending) : Type 0 where
   pub incoming : KeysData
   pub outgoing : KeysData
   pub reads_with : reading.keys ≡ Some incoming
   pub sends_with : sending.keys ≡ Some outgoing
-  pub incoming_keys : keys_in m role party (version_in units) (payloads_in units) sizes ≡ Some incoming
-  pub incoming_number : reading.seq ≡ number_in role party (payloads_in units)
-  pub outgoing_keys : keys_out m role party units answers ≡ Some outgoing
-  pub outgoing_number : sending.number ≡ number_out (strict_at role party (payloads_in units)) answers
+  pub incoming_keys : keys_in m role config (version_in units) (payloads_in units) sizes ≡ Some incoming
+  pub incoming_number : reading.seq ≡ number_in role config (payloads_in units)
+  pub outgoing_keys : keys_out m role config units answers ≡ Some outgoing
+  pub outgoing_number : sending.number ≡ number_out (strict_at role config (payloads_in units)) answers
 
 -- an endpoint that ended authenticated was refused nothing, and isn't open
 none_refused_at : (setup : Setup) (units : Units) (refusal : Option Refusal) (a : AgreedData) → Ends setup units refusal (Authenticated a) → refusal ≡ None
@@ -347,30 +347,30 @@ module _ (below : Below) (setup : Setup) (kept : StateData) (i : Input) (h s : L
       let e = ended_so below setup kept i h s p a is in
       ap past_exchange (sym (tied_phase setup.role setup.config.offer (payloads_in p.units) kept.phase inner.sits.tied) ∙ e.stays_in_auth)
 
-  reached_is : reached_after nothing_reached tried ≡ kept.known.reached
-  reached_is = ap (λ (k : Known). k.reached) inner.sits.knows
+  completed_is : completed_after none_completed tried ≡ kept.known.completed
+  completed_is = ap (λ (k : Known). k.completed) inner.sits.knows
 
   -- at a server
   came_in : setup.role ≡ Server → (key : Option UserKey) → user_key_data key ≡ kept.carried.user_key
-      → AcceptedBy tried keys a.user a.service (record { password = kept.known.reached.password; key = cond kept.known.reached.publickey key None })
+      → AcceptedBy tried keys a.user a.service (record { password = kept.known.completed.password; key = cond kept.known.completed.publickey key None })
   came_in server key same =
       let t = ends_tried below setup p.units p.refusal a (replies below setup kept i h s p a is).ends server in
       let by : Tried = tried_with a.user a.service t.1 true in
       record {
-        password = sym (ap (λ (r : ReachedData). r.password) reached_is) ∙ ap (λ (l : List Tried). (reached_after nothing_reached l).password) t.2
+        password = sym (ap (λ (r : CompletedMethodsData). r.password) completed_is) ∙ ap (λ (l : List Tried). (completed_after none_completed l).password) t.2
             ∙ password_now t.0 by (method_name t.1) refl ∙ ap (λ (l : List Tried). list_any (is_successful_for (codes "password")) (run_of a.user a.service l)) (sym t.2);
-        key = key_there kept.known.reached.publickey key
-            ∙ ap (λ (k : Option UserKeyData). cond kept.known.reached.publickey k None) (same ∙ inner.carries.user_key)
-            ∙ ap (λ (b : Bool). cond b (last_key None keys) None) (sym (ap (λ (r : ReachedData). r.publickey) reached_is) ∙ ap (λ (l : List Tried). (reached_after nothing_reached l).publickey) t.2
+        key = key_there kept.known.completed.publickey key
+            ∙ ap (λ (k : Option UserKeyData). cond kept.known.completed.publickey k None) (same ∙ inner.carries.user_key)
+            ∙ ap (λ (b : Bool). cond b (last_key None keys) None) (sym (ap (λ (r : CompletedMethodsData). r.publickey) completed_is) ∙ ap (λ (l : List Tried). (completed_after none_completed l).publickey) t.2
             ∙ publickey_now t.0 by (method_name t.1) refl ∙ ap (λ (l : List Tried). list_any (is_successful_for (codes "publickey")) (run_of a.user a.service l)) (sym t.2));
       }
 
   module _ (accepted : Option Accepted) (key : Option UserKey) (same : user_key_data key ≡ kept.carried.user_key) (at_client : setup.role ≡ Client → accepted ≡ None)
-      (at_server : setup.role ≡ Server → accepted ≡ Some (record { password = kept.known.reached.password; key = cond kept.known.reached.publickey key None })) where
+      (at_server : setup.role ≡ Server → accepted ≡ Some (record { password = kept.known.completed.password; key = cond kept.known.completed.publickey key None })) where
     accepted_as : (side : Side) → setup.role ≡ side → HasAccepted setup.suite setup.decisions side setup.config (version_in p.units) (payloads_in p.units) a accepted
     accepted_as Client e = at_client e
     accepted_as Server e =
-        let here : Accepted = record { password = kept.known.reached.password; key = cond kept.known.reached.publickey key None } in
+        let here : Accepted = record { password = kept.known.completed.password; key = cond kept.known.completed.publickey key None } in
         subst (λ (o : Option Accepted). HasAccepted setup.suite setup.decisions Server setup.config (version_in p.units) (payloads_in p.units) a o) (sym (at_server e))
         (subst (λ (r : Side). AcceptedBy (tried_at (setup_with setup.suite setup.decisions r setup.config) (version_in p.units) (payloads_in p.units)) (successful_keys_at (setup_with setup.suite setup.decisions r setup.config) (version_in p.units) (payloads_in p.units)) a.user a.service here) e (came_in e key same))
 

@@ -16,7 +16,7 @@ use Rattle.sshcore.specs.ConfigParts.{AttemptData, ByKey, ByNothing, ByPassword,
 use Rattle.sshcore.specs.EndData.{Reply, goes}
 use Rattle.sshcore.specs.EndpointParts.{ConfigData, DecisionsData}
 use Rattle.sshcore.specs.Exchange.{answer_with, exchange_with, secret_of}
-use Rattle.sshcore.specs.Known.{Known}
+use Rattle.sshcore.specs.KnownBefore.{Known}
 use Rattle.sshcore.specs.Plan.{asks, confirmed, is_waiting, next_after, next_listed, proving_name}
 use Rattle.sshcore.specs.Questions.{QuestionData, SignatureQuestion, Signed, accept_question, attempt_question, confirmed_question, credential_question, decided_by, exchange_question, init_question}
 use Rattle.sshcore.specs.Signatures.{fitting, signature_by}
@@ -81,17 +81,17 @@ module _ (m : SuiteData) (d e : DecisionsData) where
       (attempt_alike known.session (confirmed known.left))
 
   -- the exchange at a server
-  exchange_alike : (party : ConfigData) (known : Known) (x : ExchangeData) (o : Option ResponseData) → Alike (exchange_question m party known x o)
-      → answered_by m d party known x o ≡ answered_by m e party known x o
-  exchange_alike party known x None alike = refl
-  exchange_alike party known x (Some answer) alike =
-      ap (signed_reply party known x) (signature_alike 0 known.algorithms.host_key (secret_of party.host_keys known.algorithms.host_key) (exchange_hash m known.algorithms.kex x) alike)
+  exchange_alike : (config : ConfigData) (known : Known) (x : ExchangeData) (o : Option ResponseData) → Alike (exchange_question m config known x o)
+      → answered_by m d config known x o ≡ answered_by m e config known x o
+  exchange_alike config known x None alike = refl
+  exchange_alike config known x (Some answer) alike =
+      ap (signed_reply config known x) (signature_alike 0 known.algorithms.host_key (secret_of config.host_keys known.algorithms.host_key) (exchange_hash m known.algorithms.kex x) alike)
 
-  pub init_alike : (role : Side) (party : ConfigData) (known : Known) (message : MessageData) → Alike (init_question m role party known message)
-      → init_reply m d role party known message ≡ init_reply m e role party known message
+  pub init_alike : (role : Side) (config : ConfigData) (known : Known) (message : MessageData) → Alike (init_question m role config known message)
+      → init_reply m d role config known message ≡ init_reply m e role config known message
   unfolding init_reply init_question
-  init_alike role party known message alike =
-      exchange_alike party known (exchange_with m role party known.algorithms known.version known.kexinit (Ok message)) (answer_with m role party known.algorithms (Ok message)) alike
+  init_alike role config known message alike =
+      exchange_alike config known (exchange_with m role config known.algorithms known.version known.kexinit (Ok message)) (answer_with m role config known.algorithms (Ok message)) alike
 
 -- The question of an attempt has the number of those after it, and isn't asked of one that is a query.
 pub record IsOfAttempt (left : List AttemptData) (q : QuestionData) : Type 0 where
@@ -134,11 +134,11 @@ pub record IsOfExchange (q : QuestionData) : Type 0 where
   pub input : List ℕ
   pub is : q ≡ SignatureQuestion 0 algorithm blob input
 
-pub exchange_asks : (m : SuiteData) (party : ConfigData) (known : Known) (x : ExchangeData) (o : Option ResponseData) (q : QuestionData) → exchange_question m party known x o ≡ Some q → IsOfExchange q
-exchange_asks m party known x None q e = absurd cc
-exchange_asks m party known x (Some answer) q e =
+pub exchange_asks : (m : SuiteData) (config : ConfigData) (known : Known) (x : ExchangeData) (o : Option ResponseData) (q : QuestionData) → exchange_question m config known x o ≡ Some q → IsOfExchange q
+exchange_asks m config known x None q e = absurd cc
+exchange_asks m config known x (Some answer) q e =
     let name : List ℕ = known.algorithms.host_key in
-    let secret : List ℕ = secret_of party.host_keys known.algorithms.host_key in
+    let secret : List ℕ = secret_of config.host_keys known.algorithms.host_key in
     record {
       algorithm = name;
       blob = m.blob name secret;

@@ -5,24 +5,24 @@ use Rattle.std.specs.Prelude.{◌%◌, ◌^◌}
 use Rattle.std.proofs.lemmas.Bool.{eq-eqb, true≢false}
 use Rattle.sshwire.specs.declared.share_form.ShareForm.TheVariants.{Mpint}
 use Rattle.sshmsg.specs.MessageData.{KexInit, KexInitData}
-use Rattle.sshmsg.specs.Numbers.{kind}
+use Rattle.sshmsg.specs.Numbers.{message_number}
 use Rattle.sshneg.specs.declared.side.Side.{Side}
 use Rattle.sshneg.specs.declared.side.Side.TheVariants.{Client, Server}
 use Rattle.sshneg.specs.ExchangeEnd.{offer_in}
 use Rattle.sshpacket.specs.Stream.{Units}
-use Rattle.sshcore.specs.declared.table.Phase.{Phase}
-use Rattle.sshcore.specs.declared.table.Phase.TheVariants as phase
+use Rattle.sshcore.specs.declared.phase_table.Phase.{Phase}
+use Rattle.sshcore.specs.declared.phase_table.Phase.TheVariants as phase
 use Rattle.sshcore.specs.Before.{expects_guess, kept, offered, strict_at, stood, wrong_guess}
 use Rattle.sshcore.specs.Counting.{number_in}
 use Rattle.sshcore.specs.Exchange.{exchange_at, keys_at, keys_by}
-use Rattle.sshcore.specs.Known.{Known, waits_at}
+use Rattle.sshcore.specs.KnownBefore.{Known, waits_at}
 use Rattle.sshcore.specs.EndpointParts.{Setup}
 use Rattle.sshcore.specs.Plan.{is_waiting}
 use Rattle.sshcore.specs.Phases.{leaving, next_phase, past_exchange, past_kexinit, past_newkeys}
-use Rattle.sshcore.specs.Replies.{line_at, line_reply, reply_at}
+use Rattle.sshcore.specs.Replies.{disposition_at, disposition_reply, reply_at}
 use Rattle.sshcore.specs.Standing.{LeavesNone, Sits, Tied, after_exchange, after_offer, after_payload, exchange_received, nothing_known}
-use Rattle.sshcore.specs.Table.{line_by}
-use Rattle.sshcore.proofs.Below.{Below}
+use Rattle.sshcore.specs.Table.{disposition_by}
+use Rattle.sshcore.proofs.LawsBelow.{Below}
 use Rattle.sshcore.proofs.CountingLemmas.{number_more, number_switched}
 use Rattle.sshcore.proofs.GuessLemmas.{first_guess, no_guess, none_due, read_offer}
 use Rattle.sshcore.proofs.KnownLemmas.{exchange_is, exchange_stays, keys_are, keys_stay, kexinit_none, kexinit_stays, known_after, known_dropped, known_exchanged, known_none, known_offered}
@@ -75,21 +75,21 @@ module _ (setup : Setup) (version : List ℕ) where
   module _ (before : Units) (payload : List ℕ) where
     pub replies : (p : Phase) (guess : Bool) (known : Known) → Sits setup version before p guess known
         → reply_at setup version before payload
-        ≡ line_reply setup known (number_in setup.role setup.config before) (line_by setup.role p known.strict guess (is_waiting known.left) (kind payload)) payload
+        ≡ disposition_reply setup known (number_in setup.role setup.config before) (disposition_by setup.role p known.strict guess (is_waiting known.left) (message_number payload)) payload
     replies p guess known s =
         let strict : strict_at setup.role setup.config before ≡ known.strict = ap (λ (k : Known). k.strict) s.knows in
-        let line : line_at setup.role setup.config before payload ≡ line_by setup.role p known.strict guess (is_waiting known.left) (kind payload) =
-        ap (λ q. line_by setup.role q (strict_at setup.role setup.config before) (expects_guess setup.role setup.config.offer before) (waits_at setup.role setup.config before) (kind payload)) (tied_phase setup.role setup.config.offer before p s.tied)
-        ∙ ap (λ b. line_by setup.role p b (expects_guess setup.role setup.config.offer before) (waits_at setup.role setup.config before) (kind payload)) strict
-        ∙ ap (λ b. line_by setup.role p known.strict b (waits_at setup.role setup.config before) (kind payload)) s.due
-        ∙ ap (λ (k : Known). line_by setup.role p known.strict guess (is_waiting k.left) (kind payload)) s.knows in
-        ap (λ k. line_reply setup k (number_in setup.role setup.config before) (line_at setup.role setup.config before payload) payload) s.knows
-        ∙ ap (λ l. line_reply setup known (number_in setup.role setup.config before) l payload) line
+        let line : disposition_at setup.role setup.config before payload ≡ disposition_by setup.role p known.strict guess (is_waiting known.left) (message_number payload) =
+        ap (λ q. disposition_by setup.role q (strict_at setup.role setup.config before) (expects_guess setup.role setup.config.offer before) (waits_at setup.role setup.config before) (message_number payload)) (tied_phase setup.role setup.config.offer before p s.tied)
+        ∙ ap (λ b. disposition_by setup.role p b (expects_guess setup.role setup.config.offer before) (waits_at setup.role setup.config before) (message_number payload)) strict
+        ∙ ap (λ b. disposition_by setup.role p known.strict b (waits_at setup.role setup.config before) (message_number payload)) s.due
+        ∙ ap (λ (k : Known). disposition_by setup.role p known.strict guess (is_waiting k.left) (message_number payload)) s.knows in
+        ap (λ k. disposition_reply setup k (number_in setup.role setup.config before) (disposition_at setup.role setup.config before payload) payload) s.knows
+        ∙ ap (λ l. disposition_reply setup known (number_in setup.role setup.config before) l payload) line
 
     pub offers : Below → (peer : KexInitData) (known : Known) → Sits setup version before phase.KexInit false known → offer_in payload ≡ Some peer
         → Sits setup version (before ++ payload ∷ []) phase.Exchange (wrong_guess setup.role setup.config.offer (Some peer)) (after_offer setup.suite setup.role setup.config known payload peer)
     offers below peer known s offered_is =
-        let is : kind payload ≡ 20 = below.numbers Mpint payload (KexInit peer) (read_offer payload peer offered_is) in
+        let is : message_number payload ≡ 20 = below.numbers Mpint payload (KexInit peer) (read_offer payload peer offered_is) in
         let tied : Tied setup.role setup.config.offer (before ++ payload ∷ []) phase.Exchange = tied_leaves setup.role setup.config.offer before payload phase.KexInit s.tied s.due (is ∙ sym (leaving_kexinit setup.role)) in
         record {
           tied = tied;
@@ -98,7 +98,7 @@ module _ (setup : Setup) (version : List ℕ) where
               ∙ ap (λ (k : Known). after_offer setup.suite setup.role setup.config k payload peer) s.knows;
         }
 
-    pub drops : (p : Phase) (known : Known) → Sits setup version before p true known → (kind payload == 1) ≡ false
+    pub drops : (p : Phase) (known : Known) → Sits setup version before p true known → (message_number payload == 1) ≡ false
         → Sits setup version (before ++ payload ∷ []) p false (record known { first = false })
     drops p known s one =
         let is : offered before ≡ true = guess_offered setup.role setup.config.offer before payload s.due in
@@ -121,10 +121,10 @@ module _ (setup : Setup) (version : List ℕ) where
             ⊎ ((stood setup.role setup.config.offer (leaving setup.role phase.Exchange) before ≡ false) × (kept setup.role setup.config.offer (leaving setup.role phase.Exchange) before payload ≡ false))
         side p t is none = by_bool (past_exchange p) t.exchange is none
 
-    pub exchanges : (known : Known) → Sits setup version before phase.Exchange false known → kind payload ≡ leaving setup.role phase.Exchange
+    pub exchanges : (known : Known) → Sits setup version before phase.Exchange false known → message_number payload ≡ leaving setup.role phase.Exchange
         → Sits setup version (before ++ payload ∷ []) phase.NewKeys false (after_exchange setup.suite setup.role setup.config known payload)
     exchanges known s is =
-        let here : kept setup.role setup.config.offer (leaving setup.role phase.Exchange) before payload ≡ true = kept_free setup.role setup.config.offer before payload (leaving setup.role phase.Exchange) s.due ∙ eq-eqb (kind payload) (leaving setup.role phase.Exchange) is in
+        let here : kept setup.role setup.config.offer (leaving setup.role phase.Exchange) before payload ≡ true = kept_free setup.role setup.config.offer before payload (leaving setup.role phase.Exchange) s.due ∙ eq-eqb (message_number payload) (leaving setup.role phase.Exchange) is in
         record {
           tied = tied_leaves setup.role setup.config.offer before payload phase.Exchange s.tied s.due is;
           due = no_guess setup.role setup.config.offer before payload s.tied.offer;
@@ -132,18 +132,18 @@ module _ (setup : Setup) (version : List ℕ) where
               ∙ ap (λ (k : Known). after_exchange setup.suite setup.role setup.config k payload) s.knows;
         }
 
-    pub leaves : (p : Phase) (known : Known) → Sits setup version before p false known → past_exchange p ≡ true → kind payload ≡ leaving setup.role p
+    pub leaves : (p : Phase) (known : Known) → Sits setup version before p false known → past_exchange p ≡ true → message_number payload ≡ leaving setup.role p
         → Sits setup version (before ++ payload ∷ []) (next_phase p) false (after_payload setup.suite setup.decisions setup.config known payload)
     leaves p known s past is =
         let begun : offered before ≡ true = s.tied.offer ∙ past_past p past in
         record {
           tied = tied_leaves setup.role setup.config.offer before payload p s.tied s.due is;
           due = no_guess setup.role setup.config.offer before payload begun;
-          knows = known_after setup version before payload (kexinit_stays before payload begun) (inl (begun, s.tied.exchange ∙ past)) s.due (first_newkeys setup before (kind payload) p s.tied past is)
+          knows = known_after setup version before payload (kexinit_stays before payload begun) (inl (begun, s.tied.exchange ∙ past)) s.due (first_newkeys setup before (message_number payload) p s.tied past is)
               ∙ ap (λ (k : Known). after_payload setup.suite setup.decisions setup.config k payload) s.knows;
         }
 
-    pub stays : (p : Phase) (known : Known) → Sits setup version before p false known → LeavesNone setup.role (kind payload)
+    pub stays : (p : Phase) (known : Known) → Sits setup version before p false known → LeavesNone setup.role (message_number payload)
         → Sits setup version (before ++ payload ∷ []) p false (after_payload setup.suite setup.decisions setup.config known payload)
     stays p known s l =
         let tied : Tied setup.role setup.config.offer (before ++ payload ∷ []) p = tied_stays setup.role setup.config.offer before payload p s.tied s.due l in
@@ -178,17 +178,17 @@ module _ (setup : Setup) (version : List ℕ) where
             }
 
     -- keys
-    pub makes_keys : (known : Known) → Sits setup version before phase.Exchange false known → kind payload ≡ leaving setup.role phase.Exchange → (sender : Side)
+    pub makes_keys : (known : Known) → Sits setup version before phase.Exchange false known → message_number payload ≡ leaving setup.role phase.Exchange → (sender : Side)
         → keys_at setup.suite setup.role setup.config version (before ++ payload ∷ []) sender ≡ keys_by setup.suite known.algorithms (exchange_received setup.suite setup.role setup.config known payload) sender
     makes_keys known s is sender =
-        let here : kept setup.role setup.config.offer (leaving setup.role phase.Exchange) before payload ≡ true = kept_free setup.role setup.config.offer before payload (leaving setup.role phase.Exchange) s.due ∙ eq-eqb (kind payload) (leaving setup.role phase.Exchange) is in
+        let here : kept setup.role setup.config.offer (leaving setup.role phase.Exchange) before payload ≡ true = kept_free setup.role setup.config.offer before payload (leaving setup.role phase.Exchange) s.due ∙ eq-eqb (message_number payload) (leaving setup.role phase.Exchange) is in
         keys_are setup.suite setup.role setup.config version before payload s.tied.offer s.tied.exchange here setup.decisions sender
         ∙ ap (λ (k : Known). keys_by setup.suite k.algorithms (exchange_received setup.suite setup.role setup.config k payload) sender) s.knows
 
-    pub makes_exchange : (known : Known) → Sits setup version before phase.Exchange false known → kind payload ≡ leaving setup.role phase.Exchange
+    pub makes_exchange : (known : Known) → Sits setup version before phase.Exchange false known → message_number payload ≡ leaving setup.role phase.Exchange
         → exchange_at setup.suite setup.role setup.config version (before ++ payload ∷ []) ≡ exchange_received setup.suite setup.role setup.config known payload
     makes_exchange known s is =
-        let here : kept setup.role setup.config.offer (leaving setup.role phase.Exchange) before payload ≡ true = kept_free setup.role setup.config.offer before payload (leaving setup.role phase.Exchange) s.due ∙ eq-eqb (kind payload) (leaving setup.role phase.Exchange) is in
+        let here : kept setup.role setup.config.offer (leaving setup.role phase.Exchange) before payload ≡ true = kept_free setup.role setup.config.offer before payload (leaving setup.role phase.Exchange) s.due ∙ eq-eqb (message_number payload) (leaving setup.role phase.Exchange) is in
         exchange_is setup.suite setup.role setup.config version before payload s.tied.offer s.tied.exchange here setup.decisions ∙ ap (λ (k : Known). exchange_received setup.suite setup.role setup.config k payload) s.knows
 
     pub keeps_exchange : (p : Phase) (guess : Bool) (known : Known) → Sits setup version before p guess known → past_exchange p ≡ true
@@ -200,10 +200,10 @@ module _ (setup : Setup) (version : List ℕ) where
     keeps_keys p guess known s past sender = keys_stay setup.suite setup.role setup.config version before payload (s.tied.offer ∙ past_past p past) (s.tied.exchange ∙ past) sender
 
     -- numbers
-    pub counts_anew : (known : Known) → Sits setup version before phase.NewKeys false known → kind payload ≡ 21
+    pub counts_anew : (known : Known) → Sits setup version before phase.NewKeys false known → message_number payload ≡ 21
         → number_in setup.role setup.config (before ++ payload ∷ []) ≡ cond known.strict 0 ((number_in setup.role setup.config before + 1) % 2 ^ 32)
     counts_anew known s is =
-        let here : kept setup.role setup.config.offer 21 before payload ≡ true = kept_free setup.role setup.config.offer before payload 21 s.due ∙ eq-eqb (kind payload) 21 is in
+        let here : kept setup.role setup.config.offer 21 before payload ≡ true = kept_free setup.role setup.config.offer before payload 21 s.due ∙ eq-eqb (message_number payload) 21 is in
         number_switched setup.role setup.config before payload s.tied.offer s.tied.newkeys here
         ∙ ap (λ (k : Known). cond k.strict 0 ((number_in setup.role setup.config before + 1) % 2 ^ 32)) s.knows
 

@@ -4,8 +4,8 @@ use Rattle.std.proofs.Common.{◌≡◌, ℕ, true, false, List, [], ◌∷◌, 
 use Rattle.sshmsg.specs.MessageData.{KexInitData}
 use Rattle.sshneg.specs.declared.side.Side.{Side}
 use Rattle.sshpacket.specs.Stream.{Units}
-use Rattle.sshcore.specs.declared.table.Phase.{Phase}
-use Rattle.sshcore.specs.declared.table.Phase.TheVariants as phase
+use Rattle.sshcore.specs.declared.phase_table.Phase.{Phase}
+use Rattle.sshcore.specs.declared.phase_table.Phase.TheVariants as phase
 use Rattle.sshcore.specs.Before.{expects_guess, strict_at}
 use Rattle.sshcore.specs.EndpointParts.{ConfigData}
 use Rattle.sshcore.specs.Phases.{past_exchange}
@@ -41,7 +41,7 @@ SoFar role own before phase.NewKeys = StoodShare role own before
 SoFar role own before phase.Service = BeginsStrictly role own before
 SoFar role own before phase.Auth = BeginsStrictly role own before
 
-pub record Follows (role : Side) (party : ConfigData) (before : Units) (p : Phase) : Type 0 where
-  pub tied : Tied role party.offer before p
-  pub none_due : past_exchange p ≡ true → expects_guess role party.offer before ≡ false
-  pub so_far : strict_at role party before ≡ true → SoFar role party.offer before p
+pub record Follows (role : Side) (config : ConfigData) (before : Units) (p : Phase) : Type 0 where
+  pub tied : Tied role config.offer before p
+  pub none_due : past_exchange p ≡ true → expects_guess role config.offer before ≡ false
+  pub so_far : strict_at role config before ≡ true → SoFar role config.offer before p

@@ -14,7 +14,7 @@ use Rattle.sshcore.specs.declared.config_parts.ClientParts.{ClientParts}
 use Rattle.sshcore.specs.declared.config_parts.HostKey as key_parts
 use Rattle.sshcore.specs.declared.config_parts.ServerParts.{ServerParts}
 use Rattle.sshcore.specs.declared.config_parts.TheConstants.{PRIVATE_KEY_LIMIT}
-use Rattle.sshcore.specs.declared.suite_fault.AlgorithmList.TheVariants as algorithms
+use Rattle.sshcore.specs.declared.config_suite_fault.AlgorithmList.TheVariants as algorithms
 use Rattle.sshcore.specs.ConfigParts.{ClientData, HostKeyData, ServerData, SideData, key_algorithms}
 use Rattle.sshcore.specs.ConfigRules.{IsClient, IsServer}
 use Rattle.sshcore.specs.ConfigView.{attempt_data, client_data, host_key_data, server_data, side_data}

@@ -5,13 +5,13 @@ use Rattle.std.specs.Prelude.{◌&&◌}
 use Rattle.std.proofs.lemmas.Bool.{and_parts, cases_Bool, eq-eqb, eqb-true, leb-true, ne_eqb, or_cases, true≢false}
 use Rattle.sshneg.specs.declared.side.Side.{Side}
 use Rattle.sshneg.specs.declared.side.Side.TheVariants.{Client, Server}
-use Rattle.sshcore.specs.declared.table.Line.{Line}
-use Rattle.sshcore.specs.declared.table.Line.TheVariants as line
-use Rattle.sshcore.specs.declared.table.Phase.{Phase}
-use Rattle.sshcore.specs.declared.table.Phase.TheVariants as phase
+use Rattle.sshcore.specs.declared.phase_table.Disposition.{Disposition}
+use Rattle.sshcore.specs.declared.phase_table.Disposition.TheVariants as disposition
+use Rattle.sshcore.specs.declared.phase_table.Phase.{Phase}
+use Rattle.sshcore.specs.declared.phase_table.Phase.TheVariants as phase
 use Rattle.sshcore.specs.Phases.{leaving}
 use Rattle.sshcore.specs.Standing.{LeavesNone}
-use Rattle.sshcore.specs.Table.{is_ignored, is_of_auth, is_of_method, is_ruled, is_unknown, line_by, takes_extensions, within}
+use Rattle.sshcore.specs.Table.{disposition_by, is_ignored, is_of_auth, is_of_method, is_ruled, is_unknown, takes_extensions, within}
 
 -- a number that leaves no phase, and is no exchange message's
 pub record IsQuiet (role : Side) (n : ℕ) : Type 0 where
@@ -20,14 +20,14 @@ pub record IsQuiet (role : Side) (n : ℕ) : Type 0 where
   pub reply : n ≢ 31
 
 -- the lines of the table, with what holds where each decides
-pub data Sees (role : Side) (p : Phase) (strict guess : Bool) (n : ℕ) (l : Line) : Type 0 where
-  Closing : n ≡ 1 → l ≡ line.Reads → Sees role p strict guess n l
-  Dropped : (n == 1) ≡ false → guess ≡ true → (is_ruled p strict ≡ true → is_of_method n ≡ true) → l ≡ line.Drops → Sees role p strict guess n l
-  OffGuess : (n == 1) ≡ false → guess ≡ true → is_ruled p strict ≡ true → is_of_method n ≡ false → l ≡ line.Deviates → Sees role p strict guess n l
-  OffPhase : (n == 1) ≡ false → guess ≡ false → is_ruled p strict ≡ true → (n == leaving role p) ≡ false → l ≡ line.Deviates → Sees role p strict guess n l
-  Leaving : guess ≡ false → n ≡ leaving role p → l ≡ line.Reads → Sees role p strict guess n l
-  Staying : guess ≡ false → is_ruled p strict ≡ false → (n == leaving role p) ≡ false → IsQuiet role n → l ≢ line.Drops → Sees role p strict guess n l
-  Useless : guess ≡ false → is_ruled p strict ≡ false → (n == leaving role p) ≡ false → l ≡ line.Unexpected → Sees role p strict guess n l
+pub data Sees (role : Side) (p : Phase) (strict guess : Bool) (n : ℕ) (l : Disposition) : Type 0 where
+  Closing : n ≡ 1 → l ≡ disposition.Reads → Sees role p strict guess n l
+  Dropped : (n == 1) ≡ false → guess ≡ true → (is_ruled p strict ≡ true → is_of_method n ≡ true) → l ≡ disposition.Drops → Sees role p strict guess n l
+  OffGuess : (n == 1) ≡ false → guess ≡ true → is_ruled p strict ≡ true → is_of_method n ≡ false → l ≡ disposition.Deviates → Sees role p strict guess n l
+  OffPhase : (n == 1) ≡ false → guess ≡ false → is_ruled p strict ≡ true → (n == leaving role p) ≡ false → l ≡ disposition.Deviates → Sees role p strict guess n l
+  Leaving : guess ≡ false → n ≡ leaving role p → l ≡ disposition.Reads → Sees role p strict guess n l
+  Staying : guess ≡ false → is_ruled p strict ≡ false → (n == leaving role p) ≡ false → IsQuiet role n → l ≢ disposition.Drops → Sees role p strict guess n l
+  Useless : guess ≡ false → is_ruled p strict ≡ false → (n == leaving role p) ≡ false → l ≡ disposition.Unexpected → Sees role p strict guess n l
 
 -- no number of these leaves a phase
 none_from : (role : Side) (n : ℕ) → n ≢ 20 → n ≢ 21 → n ≢ 30 → n ≢ 31 → n ≢ 5 → n ≢ 6 → IsQuiet role n
@@ -113,8 +113,8 @@ auth_leaves Server phase.Service waits n h = absurd cc
 
 module _ (role : Side) (p : Phase) (strict waits : Bool) (n : ℕ) where
   -- no guess is due, and strictness rules nothing
-  free : (n == 1) ≡ false → is_ruled p strict ≡ false → Sees role p strict false n (line_by role p strict false waits n)
-  unfolding line_by
+  free : (n == 1) ≡ false → is_ruled p strict ≡ false → Sees role p strict false n (disposition_by role p strict false waits n)
+  unfolding disposition_by
   free one off = rw (one, off) (elim (cases_Bool (n == leaving role p)) [
     | inl h ↦ rw h (Leaving refl (eqb-true n (leaving role p) h) refl)
     | inr h ↦ rw h (elim (cases_Bool (is_of_auth role p waits n)) [
@@ -132,15 +132,15 @@ module _ (role : Side) (p : Phase) (strict waits : Bool) (n : ℕ) where
     ])
   ])
 
-  ruled : (n == 1) ≡ false → is_ruled p strict ≡ true → Sees role p strict false n (line_by role p strict false waits n)
-  unfolding line_by
+  ruled : (n == 1) ≡ false → is_ruled p strict ≡ true → Sees role p strict false n (disposition_by role p strict false waits n)
+  unfolding disposition_by
   ruled one on = rw (one, on) (elim (cases_Bool (n == leaving role p)) [
     | inl h ↦ rw h (Leaving refl (eqb-true n (leaving role p) h) refl)
     | inr h ↦ rw h (OffPhase one refl on h refl)
   ])
 
-  due : (n == 1) ≡ false → Sees role p strict true n (line_by role p strict true waits n)
-  unfolding line_by
+  due : (n == 1) ≡ false → Sees role p strict true n (disposition_by role p strict true waits n)
+  unfolding disposition_by
   due one = rw one (elim (cases_Bool (is_ruled p strict)) [
     | inl on ↦ rw on (elim (cases_Bool (is_of_method n)) [
       | inl h ↦ rw h (Dropped one refl (λ _. h) refl)
@@ -149,17 +149,17 @@ module _ (role : Side) (p : Phase) (strict waits : Bool) (n : ℕ) where
     | inr off ↦ rw off (Dropped one refl (λ on. absurd (true≢false (sym on ∙ off))) refl)
   ])
 
-  closing : (guess : Bool) → (n == 1) ≡ true → Sees role p strict guess n (line_by role p strict guess waits n)
-  unfolding line_by
+  closing : (guess : Bool) → (n == 1) ≡ true → Sees role p strict guess n (disposition_by role p strict guess waits n)
+  unfolding disposition_by
   closing guess one = rw one (Closing (eqb-true n 1 one) refl)
 
-  pub sees : (guess : Bool) → Sees role p strict guess n (line_by role p strict guess waits n)
+  pub sees : (guess : Bool) → Sees role p strict guess n (disposition_by role p strict guess waits n)
   sees guess = elim (cases_Bool (n == 1)) [
     | inl one ↦ closing guess one
     | inr one ↦ by_guess guess one
   ]
     where
-      by_guess : (g : Bool) → (n == 1) ≡ false → Sees role p strict g n (line_by role p strict g waits n)
+      by_guess : (g : Bool) → (n == 1) ≡ false → Sees role p strict g n (disposition_by role p strict g waits n)
       by_guess true one = due one
       by_guess false one = elim (cases_Bool (is_ruled p strict)) [
         | inl on ↦ ruled one on
@@ -168,10 +168,10 @@ module _ (role : Side) (p : Phase) (strict waits : Bool) (n : ℕ) where
 
 -- a number that is read or unknown, and neither closes nor leaves the phase, leaves none
 pub quiet : (role : Side) (p : Phase) (strict waits : Bool) (n : ℕ) → (n == 1) ≡ false → (n == leaving role p) ≡ false
-    → (line_by role p strict false waits n ≡ line.Reads) ⊎ (line_by role p strict false waits n ≡ line.Unknown) → LeavesNone role n
-quiet role p strict waits n one not_here side = by (line_by role p strict false waits n) (sees role p strict waits n false) side
+    → (disposition_by role p strict false waits n ≡ disposition.Reads) ⊎ (disposition_by role p strict false waits n ≡ disposition.Unknown) → LeavesNone role n
+quiet role p strict waits n one not_here side = by (disposition_by role p strict false waits n) (sees role p strict waits n false) side
   where
-    by : (l : Line) → Sees role p strict false n l → (l ≡ line.Reads) ⊎ (l ≡ line.Unknown) → LeavesNone role n
+    by : (l : Disposition) → Sees role p strict false n l → (l ≡ disposition.Reads) ⊎ (l ≡ disposition.Unknown) → LeavesNone role n
     by l (Closing is e) side = absurd (true≢false (sym (eq-eqb n 1 is) ∙ one))
     by l (Dropped o due r e) side = absurd (true≢false (sym due))
     by l (OffGuess o due r m e) side = absurd (true≢false (sym due))

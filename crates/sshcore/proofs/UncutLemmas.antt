@@ -4,17 +4,17 @@ use Rattle.std.proofs.Common.{◌≡◌, ℕ, false, List, [], ◌∷◌, Option
 use Rattle.sshmsg.specs.declared.fault.MsgFault.{MsgFault}
 use Rattle.sshmsg.specs.MessageData.{MessageData, Unimplemented}
 use Rattle.sshmsg.specs.Messages.{message_in}
-use Rattle.sshmsg.specs.Numbers.{kind}
+use Rattle.sshmsg.specs.Numbers.{message_number}
 use Rattle.sshpacket.specs.declared.fault.PacketFault.TheVariants as packet
 use Rattle.sshpacket.specs.Parse.{OfLine, OfPacket, Refusal}
 use Rattle.sshpacket.specs.Stream.{Units}
-use Rattle.sshcore.specs.declared.table.Line.{Line}
-use Rattle.sshcore.specs.declared.table.Line.TheVariants as line
+use Rattle.sshcore.specs.declared.phase_table.Disposition.{Disposition}
+use Rattle.sshcore.specs.declared.phase_table.Disposition.TheVariants as disposition
 use Rattle.sshcore.specs.Counting.{number_in}
 use Rattle.sshcore.specs.EndData.{EndData, Failed, Open, Reply, by_owner, goes}
-use Rattle.sshcore.specs.Known.{Known, known_at}
+use Rattle.sshcore.specs.KnownBefore.{Known, known_at}
 use Rattle.sshcore.specs.EndpointParts.{Setup}
-use Rattle.sshcore.specs.Replies.{Ends, end_at, ended, fault_of, goes_on, line_at, line_reply, read_reply, refusal_reply}
+use Rattle.sshcore.specs.Replies.{Ends, disposition_at, disposition_reply, end_at, ended, fault_of, goes_on, read_reply, refusal_reply}
 use Rattle.sshcore.specs.Work.{work}
 use Rattle.sshmsg.specs.Written.{written_message}
 use Rattle.sshcore.proofs.IgnoredLimitLemmas.{by_allowance}
@@ -46,18 +46,18 @@ module _ (setup : Setup) where
   uncut_read known n (Ok c) = uncut_work known c
   uncut_read known n (Err f) = refl
 
-  uncut_line : (known : Known) (packet : ℕ) (l : Line) (payload : List ℕ) → IsUncut (line_reply setup known packet l payload).end
-  unfolding line_reply
-  uncut_line known packet line.Reads payload =
-      by_allowance (λ (r : Reply). IsUncut r.end) known payload (read_reply setup known (kind payload) (message_in known.shares payload)) refl (uncut_read known (kind payload) (message_in known.shares payload))
-  uncut_line known packet line.Drops payload = refl
-  uncut_line known packet line.Deviates payload = refl
-  uncut_line known packet line.Unknown payload = by_allowance (λ (r : Reply). IsUncut r.end) known payload (goes (written_message (Unimplemented packet) ∷ [])) refl refl
-  uncut_line known packet line.Unexpected payload = refl
+  uncut_disposition : (known : Known) (packet : ℕ) (l : Disposition) (payload : List ℕ) → IsUncut (disposition_reply setup known packet l payload).end
+  unfolding disposition_reply
+  uncut_disposition known packet disposition.Reads payload =
+      by_allowance (λ (r : Reply). IsUncut r.end) known payload (read_reply setup known (message_number payload) (message_in known.shares payload)) refl (uncut_read known (message_number payload) (message_in known.shares payload))
+  uncut_disposition known packet disposition.Drops payload = refl
+  uncut_disposition known packet disposition.Deviates payload = refl
+  uncut_disposition known packet disposition.Unknown payload = by_allowance (λ (r : Reply). IsUncut r.end) known payload (goes (written_message (Unimplemented packet) ∷ [])) refl refl
+  uncut_disposition known packet disposition.Unexpected payload = refl
 
   pub uncut_unit : (before : Units) (unit : List ℕ) → IsUncut (end_at setup before unit)
   uncut_unit [] unit = refl
-  uncut_unit (version ∷ before) unit = uncut_line (known_at setup version before) (number_in setup.role setup.config before) (line_at setup.role setup.config before unit) unit
+  uncut_unit (version ∷ before) unit = uncut_disposition (known_at setup version before) (number_in setup.role setup.config before) (disposition_at setup.role setup.config before unit) unit
 
   pub uncut_received : (units : Units) (r : Option Refusal) (end : EndData) → Ends setup units r end → IsUncut end
   uncut_received units r end (goes_on stays e) = ap by_owner e ∙ uncut_refusal r

@@ -8,7 +8,7 @@ use Rattle.sshwire.specs.declared.share_form.ShareForm.TheVariants.{Mpint}
 use Rattle.sshmsg.specs.MessageData.{Disconnect, KexEcdhInit, KexEcdhReply, KexInit, KexInitData, KexdhInit, KexdhReply, MessageData, MethodData, NewKeys, NoMethod, OtherMethod, Password, PasswordChange, PublicKey, PublicKeyQuery, ServiceAccept, ServiceRequest, UserauthFailure, UserauthPkOk, UserauthRequest, UserauthSuccess}
 use Rattle.sshmsg.specs.Lengths.{method_length}
 use Rattle.sshmsg.specs.Messages.{Spells, message_in}
-use Rattle.sshmsg.specs.Numbers.{kind, number_of}
+use Rattle.sshmsg.specs.Numbers.{message_number, number_of}
 use Rattle.sshmsg.specs.declared.message.KexInit as kexinit
 use Rattle.sshmsg.specs.declared.message.Message.{Message}
 use Rattle.sshmsg.specs.declared.message.Method as method
@@ -21,9 +21,9 @@ use Rattle.sshpacket.specs.KeysData.{KeysData}
 use Rattle.sshpacket.specs.Suite.{SuiteData}
 use Rattle.sshpacket.specs.declared.limits.TheConstants.{PACKET_LIMIT}
 use Rattle.sshcore.specs.declared.end.Fault.{Fault}
-use Rattle.sshcore.specs.declared.table.Line.TheVariants as line
-use Rattle.sshcore.specs.declared.table.Phase.{Phase}
-use Rattle.sshcore.specs.declared.table.Phase.TheVariants as phase
+use Rattle.sshcore.specs.declared.phase_table.Disposition.TheVariants as disposition
+use Rattle.sshcore.specs.declared.phase_table.Phase.{Phase}
+use Rattle.sshcore.specs.declared.phase_table.Phase.TheVariants as phase
 use Rattle.sshcore.specs.Attempts.{failure_reply, pk_ok_reply, success_reply}
 use Rattle.sshcore.specs.Authenticating.{FitsMethod, confirmed_attempt, counted_request, failed_attempt, tried_key}
 use Rattle.sshcore.specs.Before.{wrong_guess}
@@ -31,7 +31,7 @@ use Rattle.sshcore.specs.Brings.{Exchanges, Gives, IsOngoing, Leaves, Offers, St
 use Rattle.sshcore.specs.EndData.{Authenticated, Closed, EndData, Failed, Open, Reply, goes}
 use Rattle.sshcore.specs.Exchanged.{ReceivesExchange}
 use Rattle.sshcore.specs.StateData.{StateData}
-use Rattle.sshcore.specs.Known.{Known}
+use Rattle.sshcore.specs.KnownBefore.{Known}
 use Rattle.sshcore.specs.Output.{sending_from, sent_from}
 use Rattle.sshcore.specs.EndpointParts.{Setup, setup_with}
 use Rattle.sshcore.specs.Phases.{leaving, next_phase, past_exchange}
@@ -39,7 +39,7 @@ use Rattle.sshcore.specs.Plan.{is_waiting, listed_by, listed_in}
 use Rattle.sshcore.specs.Requests.{is_successful, request_reply}
 use Rattle.sshcore.specs.Tries.{tried_with}
 use Rattle.sshcore.specs.Standing.{LeavesNone, after_offer, after_payload}
-use Rattle.sshcore.specs.Table.{line_by, is_ignorable}
+use Rattle.sshcore.specs.Table.{disposition_by, is_ignorable}
 use Rattle.sshcore.specs.Work.{accept_reply, init_reply, kexinit_reply, reply_reply, service_reply, work}
 use Rattle.sshcore.proofs.AfterLemmas.{carried_number, carried_request, counted_number, failure_after, newkeys_after, pk_ok_after, received_number, request_after}
 use Rattle.sshcore.proofs.ReadsLemmas as table
@@ -62,32 +62,32 @@ on_four (Err e) a b c d f = tt
 pub record HasPlace (role : Side) (old : StateData) (payload : List ℕ) (c : MessageData) : Type 0 where
   pub reads_it : Reads role old.phase old.guess (number_of c)
   pub read_is : message_in old.known.shares payload ≡ Ok c
-  pub kind_is : kind payload ≡ number_of c
+  pub kind_is : message_number payload ≡ number_of c
   pub offers : (peer : KexInitData) → c ≡ KexInit peer → offer_in payload ≡ Some peer
   pub lists : (listed : List (List ℕ)) (partial : Bool) → c ≡ UserauthFailure listed partial → listed_in payload ≡ listed
   pub requests : (user service : List ℕ) (method : MethodData) → c ≡ UserauthRequest user service method → message_in Mpint payload ≡ Ok (UserauthRequest user service method)
 
 pub has_place : ((form : ShareForm) (payload : List ℕ) (c : MessageData) → Spells form c payload → message_in form payload ≡ Ok c)
-    → ((form : ShareForm) (payload : List ℕ) (c : MessageData) → message_in form payload ≡ Ok c → kind payload ≡ number_of c)
-    → ((form other : ShareForm) (payload : List ℕ) → kind payload ≢ 30 → kind payload ≢ 31 → message_in form payload ≡ message_in other payload)
-    → (role : Side) (old : StateData) (payload : List ℕ) (c : MessageData) → line_by role old.phase old.known.strict old.guess (is_waiting old.known.left) (kind payload) ≡ line.Reads → Spells old.known.shares c payload
+    → ((form : ShareForm) (payload : List ℕ) (c : MessageData) → message_in form payload ≡ Ok c → message_number payload ≡ number_of c)
+    → ((form other : ShareForm) (payload : List ℕ) → message_number payload ≢ 30 → message_number payload ≢ 31 → message_in form payload ≡ message_in other payload)
+    → (role : Side) (old : StateData) (payload : List ℕ) (c : MessageData) → disposition_by role old.phase old.known.strict old.guess (is_waiting old.known.left) (message_number payload) ≡ disposition.Reads → Spells old.known.shares c payload
     → HasPlace role old payload c
 unfolding listed_in
-has_place complete number alike role old payload c line_is spelled =
+has_place complete number alike role old payload c disposition_is spelled =
     let read : message_in old.known.shares payload ≡ Ok c = complete old.known.shares payload c spelled in
-    let same : kind payload ≡ number_of c = number old.known.shares payload c read in
+    let same : message_number payload ≡ number_of c = number old.known.shares payload c read in
     record {
-      reads_it = subst (λ (k : ℕ). Reads role old.phase old.guess k) same (reads role old.phase old.known.strict (is_waiting old.known.left) (kind payload) old.guess line_is);
+      reads_it = subst (λ (k : ℕ). Reads role old.phase old.guess k) same (reads role old.phase old.known.strict (is_waiting old.known.left) (message_number payload) old.guess disposition_is);
       read_is = read;
       kind_is = same;
       offers = λ peer is.
-          let twenty : kind payload ≡ 20 = same ∙ ap number_of is in
+          let twenty : message_number payload ≡ 20 = same ∙ ap number_of is in
           ap offer_by (alike Mpint old.known.shares payload (λ q. omega arith) (λ q. omega arith) ∙ (read ∙ ap (λ (x : MessageData). Ok x) is));
       lists = λ listed partial is.
-          let failure : kind payload ≡ 51 = same ∙ ap number_of is in
+          let failure : message_number payload ≡ 51 = same ∙ ap number_of is in
           ap listed_by (alike Mpint old.known.shares payload (λ q. omega arith) (λ q. omega arith) ∙ (read ∙ ap (λ (x : MessageData). Ok x) is));
       requests = λ user service method is.
-          let request : kind payload ≡ 50 = same ∙ ap number_of is in
+          let request : message_number payload ≡ 50 = same ∙ ap number_of is in
           alike Mpint old.known.shares payload (λ q. omega arith) (λ q. omega arith) ∙ (read ∙ ap (λ (x : MessageData). Ok x) is);
     }
 
@@ -200,7 +200,7 @@ module _ (setup : Setup) (old new : StateData) (payload before after : List ℕ)
       → Works setup old new payload before after r
   leaves_works side p q n k r number leaves past next at known gives keys stands =
       let none : old.guess ≡ false = at.none_due in
-      let here : kind payload ≡ leaving setup.role old.phase = has.kind_is ∙ (number ∙ sym leaves ∙ sym (rw (at.phase_is, at.side_is) refl)) in
+      let here : message_number payload ≡ leaving setup.role old.phase = has.kind_is ∙ (number ∙ sym leaves ∙ sym (rw (at.phase_is, at.side_is) refl)) in
       record {
         gives = gives _ _;
         moves = λ goes_on. Leaves none (ap past_exchange at.phase_is ∙ past) here (keys goes_on) (record {
@@ -287,7 +287,7 @@ module _ (setup : Setup) (old new : StateData) (payload before after : List ℕ)
   failure_works listed partial is gives stays =
       let at = at_failure setup.role old payload c has (ap number_of is) in
       let none : old.guess ≡ false = at.none_due in
-      let number : kind payload ≡ 51 = has.kind_is ∙ ap number_of is in
+      let number : message_number payload ≡ 51 = has.kind_is ∙ ap number_of is in
       by_reply (failure_reply setup.suite setup.decisions old.known listed) (ap (work setup old.known) is) (record {
         gives = gives _ _;
         moves = λ goes_on. Stays none (subst (λ (n : ℕ). LeavesNone setup.role n) (sym number) (table.late_leaves setup.role 51 (omega arith)))
@@ -307,7 +307,7 @@ module _ (setup : Setup) (old new : StateData) (payload before after : List ℕ)
   pk_ok_works algorithm key is gives stays =
       let at = at_confirmation setup.role old payload c has (ap number_of is) in
       let none : old.guess ≡ false = at.none_due in
-      let number : kind payload ≡ 60 = has.kind_is ∙ ap number_of is in
+      let number : message_number payload ≡ 60 = has.kind_is ∙ ap number_of is in
       by_reply (pk_ok_reply setup.suite setup.decisions old.known algorithm key) (ap (work setup old.known) is) (record {
         gives = gives _ _;
         moves = λ goes_on. Stays none (subst (λ (n : ℕ). LeavesNone setup.role n) (sym number) (table.late_leaves setup.role 60 (omega arith)))

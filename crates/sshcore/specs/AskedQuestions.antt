@@ -5,14 +5,14 @@ use Rattle.std.specs.List.{AllByRecursion}
 use Rattle.sshpacket.specs.Places.{flat_places}
 use Rattle.sshpacket.specs.Stream.{Units}
 use Rattle.sshcore.specs.EndpointParts.{DecisionsData, Setup}
-use Rattle.sshcore.specs.Known.{known_at}
-use Rattle.sshcore.specs.Questions.{AnswerData, HostKeyQuestion, QuestionData, SignatureQuestion, UserQuestion, decided, line_question, taken}
-use Rattle.sshcore.specs.Replies.{line_at}
+use Rattle.sshcore.specs.KnownBefore.{known_at}
+use Rattle.sshcore.specs.Questions.{AnswerData, HostKeyQuestion, QuestionData, SignatureQuestion, UserQuestion, decided, disposition_question, taken}
+use Rattle.sshcore.specs.Replies.{disposition_at}
 
 -- what a payload asks after those before it
 abbrev pub question_after : Setup → List ℕ → Units → List ℕ → Option QuestionData
 question_after setup version before payload =
-    line_question setup.suite setup.role setup.config (known_at setup version before) (line_at setup.role setup.config before payload) payload
+    disposition_question setup.suite setup.role setup.config (known_at setup version before) (disposition_at setup.role setup.config before payload) payload
 
 -- one question or none, as a list
 abbrev pub asked : Option QuestionData → List QuestionData

@@ -11,7 +11,7 @@ use Rattle.sshcore.specs.declared.end.Fault.TheVariants as fault
 use Rattle.sshcore.specs.ConfigParts.{AttemptData, ByKey, ByNothing, ByPassword, CredentialData}
 use Rattle.sshcore.specs.EndpointParts.{DecisionsData}
 use Rattle.sshcore.specs.EndData.{AgreedData, Authenticated, Reply, fails, goes}
-use Rattle.sshcore.specs.Known.{Known}
+use Rattle.sshcore.specs.KnownBefore.{Known}
 use Rattle.sshcore.specs.Plan.{confirmed, next_after}
 use Rattle.sshcore.specs.Signatures.{signature_by}
 
@@ -35,11 +35,11 @@ is_asked m ByNothing algorithm key = false
 is_asked m (ByPassword password) algorithm key = false
 is_asked m (ByKey own secret ask) algorithm key = ask && (bytes_eq algorithm own && bytes_eq key (m.blob own secret))
 
--- the request of an attempt in this session (RFC 4252 section 5), after which so many are left
+-- the request of an attempt in this session (RFC 4252 section 5), after which so many are left (the number is profile)
 abbrev pub request_of : SuiteData → DecisionsData → ℕ → List ℕ → AttemptData → List ℕ
 request_of m d number session a = written_message (UserauthRequest a.user a.service (method_by m d number session a.user a.service a.proving))
 
--- the first of the attempts that are left is made
+-- the first of the attempts that are left is made (F14 is profile)
 abbrev pub attempt_reply : SuiteData → DecisionsData → List ℕ → List AttemptData → Reply
 attempt_reply m d session [] = fails fault.NoMoreMethods
 attempt_reply m d session (a ∷ later) = goes (request_of m d (length later) session a ∷ [])
@@ -53,7 +53,8 @@ abbrev pub answers_query : SuiteData → List ℕ → List ℕ → List AttemptD
 answers_query m algorithm key [] = false
 answers_query m algorithm key (a ∷ later) = is_asked m a.proving algorithm key
 
--- PK_OK: it has to be of the key that the query had, and then the attempt itself is made; where no query waits, it is unexpected
+-- PK_OK: it has to be of the key that the query had, and then the attempt itself is made; where no query waits, it is unexpected (F6 is
+-- profile)
 abbrev pub pk_ok_reply : SuiteData → DecisionsData → Known → List ℕ → List ℕ → Reply
 pk_ok_reply m d known algorithm key =
     if answers_query m algorithm key known.left then attempt_reply m d known.session (confirmed known.left)
@@ -65,10 +66,11 @@ agreed_by known user service =
     record { algorithms = known.algorithms; strict = known.strict; session = known.session; user = user; service = service }
 
 -- SUCCESS: by the attempts that are left, of which the first is the one that was made; where none was, it answers no request and
--- is unexpected
+-- is unexpected (F6 is profile)
 abbrev pub success_by : Known → List AttemptData → Reply
 success_by known [] = fails (fault.Unexpected SSH_MSG_USERAUTH_SUCCESS)
 success_by known (a ∷ later) = record { answers = []; end = Authenticated (agreed_by known a.user a.service) }
 
+-- what a client answers to SUCCESS, by the attempts that are left of its plan (RFC 4252 section 5.1)
 abbrev pub success_reply : Known → Reply
 success_reply known = success_by known known.left

@@ -8,27 +8,27 @@ use Rattle.sshneg.specs.declared.side.Side.TheVariants.{Client, Server}
 use Rattle.sshneg.specs.ChoiceReadings.{is_in}
 use Rattle.sshpacket.specs.Stream.{Units}
 use Rattle.sshpacket.specs.Suite.{SuiteData}
-use Rattle.sshcore.specs.declared.table.Phase.TheVariants as phase
+use Rattle.sshcore.specs.declared.phase_table.Phase.TheVariants as phase
 use Rattle.sshcore.specs.Attempts.{agreed_by}
 use Rattle.sshcore.specs.ConfigParts.{AttemptData}
 use Rattle.sshcore.specs.Directions.{payloads_in}
 use Rattle.sshcore.specs.EndData.{AgreedData}
-use Rattle.sshcore.specs.Known.{Known, known_at}
+use Rattle.sshcore.specs.KnownBefore.{Known, known_at}
 use Rattle.sshcore.specs.EndpointParts.{ConfigData, DecisionsData, Setup}
 use Rattle.sshcore.specs.Phases.{phase_at}
-use Rattle.sshcore.specs.Reached.{Tried, are_reached}
+use Rattle.sshcore.specs.CompletedMethods.{Tried, are_completed}
 use Rattle.sshcore.specs.Requests.{is_successful}
 use Rattle.sshcore.specs.Tries.{tried_at, tried_with}
 
 -- A server accepts a user: this payload is the user's request for a service by some method; the server has the service; the
 -- request is successful, so it is no query, it proves something, and the decision on that is yes; and after it all required methods
--- are reached: in the unbroken run of requests for this user and service that it ends, for each of them one was successful.
-pub record AcceptsUser (m : SuiteData) (d : DecisionsData) (party : ConfigData) (known : Known) (tried : List Tried) (payload : List ℕ) (a : AgreedData) : Type 0 where
+-- are completed: in the unbroken run of requests for this user and service that it ends, for each of them one was successful.
+pub record AcceptsUser (m : SuiteData) (d : DecisionsData) (config : ConfigData) (known : Known) (tried : List Tried) (payload : List ℕ) (a : AgreedData) : Type 0 where
   pub method : MethodData
   pub requests : message_in known.shares payload ≡ Ok (UserauthRequest a.user a.service method)
-  pub has_service : is_in party.services a.service ≡ true
-  pub successful : is_successful m d party known a.user a.service method ≡ true
-  pub reached : are_reached party.required a.user a.service (tried ++ tried_with a.user a.service method true ∷ []) ≡ true
+  pub has_service : is_in config.services a.service ≡ true
+  pub successful : is_successful m d config known a.user a.service method ≡ true
+  pub completed : are_completed config.required a.user a.service (tried ++ tried_with a.user a.service method true ∷ []) ≡ true
 
 -- A client is accepted: this payload is a SUCCESS, and user and service are those of the attempt that the client made last, which
 -- is the first of those that its plan still has.
@@ -42,8 +42,8 @@ pub record WasAccepted (known : Known) (payload : List ℕ) (a : AgreedData) : T
 
 -- by what a user is accepted, by the role
 abbrev pub IsAcceptedUser : SuiteData → DecisionsData → Side → ConfigData → Known → List Tried → List ℕ → AgreedData → Type 0
-IsAcceptedUser m d Client party known tried payload a = WasAccepted known payload a
-IsAcceptedUser m d Server party known tried payload a = AcceptsUser m d party known tried payload a
+IsAcceptedUser m d Client config known tried payload a = WasAccepted known payload a
+IsAcceptedUser m d Server config known tried payload a = AcceptsUser m d config known tried payload a
 
 -- An endpoint ended authenticated: its last payload came in phase auth, and the phase is the same after it. It agreed on what
 -- the payloads before have given, which are the algorithms, strictness and the session identifier; and by what they have given

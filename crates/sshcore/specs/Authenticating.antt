@@ -8,9 +8,9 @@ use Rattle.sshmsg.specs.Lengths.{method_length}
 use Rattle.sshpacket.specs.declared.limits.TheConstants.{PACKET_LIMIT}
 use Rattle.sshcore.specs.declared.config_parts.TheConstants.{USER_LIMIT}
 use Rattle.sshcore.specs.StateData.{Carried}
-use Rattle.sshcore.specs.Known.{Known}
+use Rattle.sshcore.specs.KnownBefore.{Known}
 use Rattle.sshcore.specs.Plan.{confirmed, next_after}
-use Rattle.sshcore.specs.Reached.{Tried, reached_after_one}
+use Rattle.sshcore.specs.CompletedMethods.{Tried, completed_after_one}
 use Rattle.sshcore.specs.Table.{within}
 use Rattle.sshcore.specs.Tries.{key_of, last_key}
 
@@ -18,19 +18,19 @@ use Rattle.sshcore.specs.Tries.{key_of, last_key}
 abbrev pub one_request : Known → Known
 one_request known = record known { request = known.request + 1; first = false }
 
--- what is known after a request, which is counted, and may reach a method
+-- what is known after a request, which is counted, and may complete a method (RFC 4252 section 5)
 abbrev pub counted_request : Known → Tried → Known
-counted_request known t = record known { request = known.request + 1; reached = reached_after_one known.reached t; first = false }
+counted_request known t = record known { request = known.request + 1; completed = completed_after_one known.completed t; first = false }
 
--- what is carried along after a request by this method, which was successful or not: its key, if it has one
+-- what is carried along after a request by this method, which was successful or not: its key, if it has one (RFC 4252 section 7)
 abbrev pub tried_key : Carried → MethodData → Bool → Carried
 tried_key c method successful = record c { user_key = last_key c.user_key (if successful then key_of method else []) }
 
--- after a PK_OK
+-- what is known after a PK_OK: the next attempt is confirmed (RFC 4252 section 7)
 abbrev pub confirmed_attempt : Known → Known
 confirmed_attempt known = record known { left = confirmed known.left; first = false }
 
--- and after a FAILURE that lists these methods
+-- what is known after a FAILURE that lists these methods (RFC 4252 section 5.1)
 abbrev pub failed_attempt : Known → List (List ℕ) → Known
 failed_attempt known listed = record known { left = next_after listed known.left; first = false }
 
@@ -39,7 +39,7 @@ abbrev pub FitsMethod : MethodData → Type 0
 FitsMethod (PublicKey algorithm key signature) = (length key ≤ PACKET_LIMIT) × (length signature ≤ PACKET_LIMIT)
 FitsMethod _ = Unit {0}
 
--- a request by this method fits a payload, whoever the user is and whatever the service
+-- a request by this method fits a payload, whoever the user is and whatever the service (RFC 4253 section 6.1)
 abbrev pub FitsRequest : MethodData → Type 0
 FitsRequest method = USER_LIMIT + NAME_LIMIT + length (method_name method) + method_length method + 13 ≤ PAYLOAD_LIMIT
 

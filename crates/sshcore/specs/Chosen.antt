@@ -10,7 +10,7 @@ use Rattle.sshneg.specs.declared.side.Side.{Side}
 use Rattle.sshneg.specs.declared.side.Side.TheVariants.{Client, Server}
 use Rattle.sshneg.specs.Fields.{AlgorithmsData, list_of, name_of, position_of}
 
--- each of them is a name
+-- each of the algorithms is a name (RFC 4251 section 6)
 abbrev pub AreNamed : AlgorithmsData → Type 0
 AreNamed a = (f : NoCommon) → IsName (name_of f a)
 
@@ -22,11 +22,12 @@ ArePlaced client chosen = (f : NoCommon) → position_of f chosen < length (list
 abbrev pub AreAt : KexInitData → Chosen → AlgorithmsData → Type 0
 AreAt client chosen a = (f : NoCommon) → slice_get (list_of f client) (position_of f chosen) ≡ Some (name_of f a)
 
--- the cipher and the MAC of what this role sends
+-- the cipher of what this role sends
 abbrev pub cipher_of : AlgorithmsData → Side → List ℕ
 cipher_of a Client = a.encryption_client_to_server
 cipher_of a Server = a.encryption_server_to_client
 
+-- the MAC of what this role sends
 abbrev pub mac_of : AlgorithmsData → Side → List ℕ
 mac_of a Client = a.mac_client_to_server
 mac_of a Server = a.mac_server_to_client

@@ -2,8 +2,9 @@
 
 use Rattle.std.specs.Prelude.{string_bytes}
 use Rattle.sshneg.specs.Fields.{AlgorithmsData}
-use Rattle.sshcore.specs.declared.algorithms.Algorithms.TheInside.{Inside}
+use Rattle.sshcore.specs.declared.kex_algorithms.Algorithms.TheInside.{Inside}
 
+-- the names of the chosen algorithms, as contracts see those that an endpoint has copied (RFC 4253 section 7.1)
 abbrev pub algorithms_of : Inside → AlgorithmsData
 algorithms_of a = record {
   kex = string_bytes a.kex;

@@ -5,12 +5,12 @@ use Rattle.sshcore.specs.declared.config_fault.ConfigFault.{ConfigFault}
 use Rattle.sshcore.specs.declared.config_fault.ConfigFault.TheVariants as config
 use Rattle.sshcore.specs.declared.end.Fault.{Fault}
 use Rattle.sshcore.specs.declared.end.Fault.TheVariants as fault
-use Rattle.sshcore.specs.declared.suite_fault.AlgorithmList.{AlgorithmList}
-use Rattle.sshcore.specs.declared.suite_fault.AlgorithmList.TheVariants as algorithms
-use Rattle.sshcore.specs.declared.suite_fault.SuiteFault.{SuiteFault}
-use Rattle.sshcore.specs.declared.suite_fault.SuiteFault.TheVariants as suite
+use Rattle.sshcore.specs.declared.config_suite_fault.AlgorithmList.{AlgorithmList}
+use Rattle.sshcore.specs.declared.config_suite_fault.AlgorithmList.TheVariants as algorithms
+use Rattle.sshcore.specs.declared.config_suite_fault.SuiteFault.{SuiteFault}
+use Rattle.sshcore.specs.declared.config_suite_fault.SuiteFault.TheVariants as suite
 
--- of a failure
+-- the code of a failure, with an F before its number (profile)
 abbrev pub fault_code : Fault → List ℕ
 fault_code fault.Version = codes "F1"
 fault_code fault.Length = codes "F2"
@@ -30,7 +30,7 @@ fault_code fault.Memory = codes "F15"
 fault_code fault.Cut = codes "F16"
 fault_code fault.TooMuchIgnored = codes "F17"
 
--- of a refusal: its number, and a C before it
+-- the code of a refusal of a config: its number, and a C before it (profile)
 abbrev pub config_code : ConfigFault → List ℕ
 config_code config.EmptyList = codes "C1"
 config_code config.Name = codes "C2"
@@ -45,7 +45,7 @@ config_code config.Random = codes "C10"
 config_code config.Memory = codes "C11"
 config_code config.Required = codes "C12"
 
--- of a refusal of a config over a suite: the codes go on
+-- the code of a refusal of a config over a suite; it goes on from those of configs (profile)
 abbrev pub suite_code : SuiteFault → List ℕ
 suite_code (suite.Algorithm list name) = codes "C13"
 suite_code (suite.PrivateKey position algorithm) = codes "C14"

@@ -15,7 +15,7 @@ pub data CredentialData : Type 0 where
   ByPassword : List ℕ → CredentialData
   ByKey : List ℕ → List ℕ → Bool → CredentialData
 
--- one attempt of a client's plan
+-- one attempt of a client's plan (RFC 4252 section 5)
 pub record AttemptData : Type 0 where
   pub user : List ℕ
   pub service : List ℕ
@@ -26,7 +26,9 @@ pub record HostKeyData : Type 0 where
   pub algorithm : List ℕ
   pub secret : List ℕ
 
--- what both configs hold
+-- What both configs hold: softwareversion and comments, the form by which the peer's version line is read, five lists of algorithms, and
+-- whether the side is willing to be strict. Then the cookie, the exchange random and the padding seed, and how many bytes of messages that
+-- say nothing are taken.
 pub record SideData : Type 0 where
   pub softwareversion : List ℕ
   pub comments : Option (List ℕ)
@@ -42,12 +44,15 @@ pub record SideData : Type 0 where
   pub seed : List ℕ
   pub ignored_limit : Option ℕ
 
+-- the twin of `ClientConfig`: what both configs hold, the host key algorithms, whether it guesses, and its plan
 pub record ClientData : Type 0 where
   pub side : SideData
   pub host_key_algorithms : List (List ℕ)
   pub guess : Bool
   pub plan : List AttemptData
 
+-- The twin of `ServerConfig`: what both configs hold, host keys, services, methods and required methods. Then the algorithms of users' keys
+-- that it announces, the limit of tries, the banner, and the lines before its version line.
 pub record ServerData : Type 0 where
   pub side : SideData
   pub host_keys : List HostKeyData
@@ -72,8 +77,8 @@ abbrev pub own_marker : Side → Bool → List (List ℕ)
 own_marker role true = strict_marker role ∷ []
 own_marker role false = []
 
--- The KEXINIT of a side (RFC 4253 section 7.1), of its host key algorithms and whether it announces a guess: its marker
--- stands last in the kex list, there is no compression and no language.
+-- The KEXINIT of a side, with these host key algorithms, which announces a guess or none (RFC 4253 section 7.1). Its marker is the last
+-- name of the kex list (profile). There is no compression and no language.
 abbrev pub side_offer : Side → SideData → List (List ℕ) → Bool → KexInitData
 side_offer role side host_keys guess = record {
   cookie = side.cookie;
@@ -90,9 +95,10 @@ side_offer role side host_keys guess = record {
   first_kex_packet_follows = guess;
 }
 
+-- the KEXINIT of a client, which announces a guess if it is configured to (RFC 4253 section 7.1)
 abbrev pub client_offer : ClientData → KexInitData
 client_offer client = side_offer Client client.side client.host_key_algorithms client.guess
 
--- a server announces no guess
+-- a server announces no guess (RFC 4253 section 7.1)
 abbrev pub server_offer : ServerData → KexInitData
 server_offer server = side_offer Server server.side (key_algorithms server.host_keys) false

@@ -32,17 +32,19 @@ lists_of side host_keys =
     side.kex_algorithms ∷ host_keys ∷ side.encryption_client_to_server ∷ side.encryption_server_to_client
     ∷ side.mac_client_to_server ∷ side.mac_server_to_client ∷ []
 
+-- the lists of algorithms of a client, in the order of a KEXINIT (RFC 4253 section 7.1)
 abbrev pub client_lists : ClientData → List (List (List ℕ))
 client_lists client = lists_of client.side client.host_key_algorithms
 
--- a server has three lists more
+-- the lists of algorithms of a server, of which the host key algorithms are those of its host keys
 abbrev pub server_lists : ServerData → List (List (List ℕ))
 server_lists server = lists_of server.side (key_algorithms server.host_keys)
 
+-- all lists of names of a server: its algorithms, services, methods, required methods and the algorithms of users' keys
 abbrev pub all_server_lists : ServerData → List (List (List ℕ))
 all_server_lists server = server_lists server ++ server.services ∷ server.methods ∷ server.required ∷ server.signature_algorithms ∷ []
 
--- the list has a name
+-- the list has a name (RFC 4253 section 7.1)
 abbrev pub IsSome : List (List ℕ) → Type 0
 IsSome names = 0 < length names
 
@@ -58,7 +60,7 @@ IsUnmarked name = is_marker name ≡ false
 abbrev pub IsListed : List ℕ → Type 0
 IsListed name = (name ≡ codes "password") ⊎ (name ≡ codes "publickey")
 
--- the algorithm of an attempt, if it has one, is a name
+-- the algorithm of an attempt, if it has one, is a name (RFC 4251 section 6)
 abbrev pub IsNamed : CredentialData → Type 0
 IsNamed ByNothing = Unit {0}
 IsNamed (ByPassword password) = Unit {0}
@@ -76,7 +78,7 @@ HasShortKey ByNothing = Unit {0}
 HasShortKey (ByPassword password) = Unit {0}
 HasShortKey (ByKey algorithm secret ask) = length secret ≤ PRIVATE_KEY_LIMIT
 
--- what is true of each attempt of an accepted plan
+-- what is true of each attempt of an accepted plan: user, password and private key are within their limits, service and algorithm are names
 pub record IsAttempt (a : AttemptData) : Type 0 where
   pub user : length a.user ≤ USER_LIMIT
   pub service : IsName a.service
@@ -95,7 +97,7 @@ pub record IsNotice (line : List ℕ) : Type 0 where
   pub bytes : AllByRecursion IsNoticeByte line
   pub no_ssh : BeginsSsh line → ⊥
 
--- the cookie has 16 bytes, the exchange random and the padding seed have 32
+-- the cookie has 16 bytes, the exchange random and the padding seed have 32 (RFC 4253 section 7.1; the 32 are profile)
 pub record HasLengths (side : SideData) : Type 0 where
   pub cookie : length side.cookie ≡ 16
   pub random : length side.random ≡ 32
@@ -106,6 +108,8 @@ abbrev pub AreDistinct : List (List ℕ) → Type 0
 AreDistinct [] = Unit {0}
 AreDistinct (name ∷ names) = (Contains names name → ⊥) × AreDistinct names
 
+-- What a client's config has to keep, rule by rule, each under the refusal of its breach (RFC 4251 section 6, RFC 4253 sections 4.2 and
+-- 7.1; the limits are profile). `Tries`, `Required` and `Memory` require nothing.
 abbrev pub ClientRule : ConfigFault → ClientData → Type 0
 ClientRule fault.EmptyList client = AllByRecursion IsSome (client_lists client)
 ClientRule fault.Name client =
@@ -122,6 +126,8 @@ ClientRule fault.Random client = HasLengths client.side
 ClientRule fault.Memory client = Unit {0}
 ClientRule fault.Required client = Unit {0}
 
+-- What a server's config has to keep, rule by rule, each under the refusal of its breach (RFC 4251 section 6, RFC 4253 sections 4.2 and
+-- 7.1; the limits are profile). `User`, `Secret`, `Plan` and `Memory` require nothing.
 abbrev pub ServerRule : ConfigFault → ServerData → Type 0
 ServerRule fault.EmptyList server = AllByRecursion IsSome (server_lists server)
 ServerRule fault.Name server =
@@ -140,7 +146,7 @@ ServerRule fault.Random server = HasLengths server.side
 ServerRule fault.Memory server = Unit {0}
 ServerRule fault.Required server = AllByRecursion (Contains server.methods) server.required × AreDistinct server.required
 
--- It is refused so: this rule is broken, and every rule with a lesser number is kept.
+-- the rule of this refusal is broken, and every rule with a lesser number is kept (profile)
 pub record IsLeastBroken (Rule : ConfigFault → Type 0) (code : ConfigFault) : Type 0 where
   pub broken : Rule code → ⊥
   pub least : (other : ConfigFault) → rule_number other < rule_number code → Rule other

@@ -10,17 +10,21 @@ use Rattle.sshcore.specs.declared.config_parts.ServerParts.{ServerParts}
 use Rattle.sshcore.specs.declared.config_parts.SideParts.{SideParts}
 use Rattle.sshcore.specs.ConfigParts.{AttemptData, ByKey, ByNothing, ByPassword, ClientData, CredentialData, HostKeyData, ServerData, SideData}
 
+-- the twin of a `Credential`: nothing, a password, or a key
 abbrev pub credential_data : Credential → CredentialData
 credential_data credential.None = ByNothing
 credential_data (credential.Password password) = ByPassword password.items
 credential_data (credential.PublicKey algorithm private_key ask) = ByKey (string_bytes algorithm) private_key.items ask
 
+-- the twin of an `Attempt`: its user, service and credential
 abbrev pub attempt_data : attempt_parts.Attempt → AttemptData
 attempt_data a = record { user = string_bytes a.user; service = string_bytes a.service; proving = credential_data a.credential }
 
+-- the twin of a `HostKey`: its algorithm and private key
 abbrev pub host_key_data : host_key_parts.HostKey → HostKeyData
 host_key_data key = record { algorithm = string_bytes key.algorithm; secret = key.private_key.items }
 
+-- the twin of `SideParts`, the settings that both sides have
 abbrev pub side_data : SideParts → SideData
 side_data parts = record {
   softwareversion = string_bytes parts.softwareversion;
@@ -38,6 +42,7 @@ side_data parts = record {
   ignored_limit = parts.ignored_limit;
 }
 
+-- the twin of `ClientParts`
 abbrev pub client_data : ClientParts → ClientData
 client_data parts = record {
   side = side_data parts.side;
@@ -46,6 +51,7 @@ client_data parts = record {
   plan = map attempt_data parts.plan.items;
 }
 
+-- the twin of `ServerParts`
 abbrev pub server_data : ServerParts → ServerData
 server_data parts = record {
   side = side_data parts.side;

@@ -15,14 +15,14 @@ use Rattle.sshcore.specs.StateData.{state_data}
 -- what an endpoint asks is what the packet asks that waits, as `question` promises
 abbrev pub AsksByPacket : {S : Type 0} → (S → SuiteData) → AskingData S → Type 0
 AsksByPacket meaning e =
-    (w : WaitingData) → e.waiting ≡ Some w → asking_end e ≡ Open → question_at (meaning e.suite) e.role e.party (state_data e.state) w.payload ≡ Some w.question
+    (w : WaitingData) → e.waiting ≡ Some w → asking_end e ≡ Open → question_at (meaning e.suite) e.role e.config (state_data e.state) w.payload ≡ Some w.question
 
--- It was paused and resumed, each as its contract tells, in the role and with the config and the suite that it had.
+-- An asking endpoint was paused and resumed, each as its contract says, in the role and with the config and the suite that it had.
 pub record IsRested {S : Type 0} (meaning : S → SuiteData) (old new : AskingData S) : Type 0 where
   pub paused : PausedData S
   pub pauses : (d : DecisionsData) (h s : List ℕ) → AskingAfter meaning d old h s → PausedAfter (asking_setup meaning d old) paused h s
   pub asked : asked_paused paused ≡ asked_by old
-  pub resumes : IsResumed old.role old.party old.suite paused new
+  pub resumes : IsResumed old.role old.config old.suite paused new
   pub follows : (d : DecisionsData) (h s : List ℕ) → PausedAfter (asking_setup meaning d old) paused h s → AskingAfter meaning d new h s
   pub asks : asked_by new ≡ asked_paused paused
 
@@ -30,7 +30,7 @@ pub record IsRested {S : Type 0} (meaning : S → SuiteData) (old new : AskingDa
 -- appended these bytes. It was made; or before the last call it stood as `old` does, and was fed, answered, paused and resumed, cut off,
 -- or told to disconnect. A call that fed it and used nothing asks nothing else.
 pub data Dialogue {S : Type 0} (meaning : S → SuiteData) : AskingData S → List AnsweredData → List ℕ → List ℕ → Type 0 where
-  Makes : (role : Side) (party : ConfigData) (suite : S) (new : AskingData S) (before after : List ℕ) (made : AskingMade meaning role party suite new before after)
+  Makes : (role : Side) (config : ConfigData) (suite : S) (new : AskingData S) (before after : List ℕ) (made : AskingMade meaning role config suite new before after)
       → Dialogue meaning new [] [] made.added
   Feeds : (old new : AskingData S) (answers : List AnsweredData) (h s taken before after : List ℕ) → Dialogue meaning old answers h s
       → (fed : AskingFed meaning old new taken before after) → (taken ≡ [] → asked_by new ≡ asked_by old) → Dialogue meaning new answers (h ++ taken) (s ++ fed.added)

@@ -25,11 +25,12 @@ use Rattle.sshcore.specs.Counting.{is_newkeys, number_in, number_out, switched_o
 use Rattle.sshcore.specs.Exchange.{keys_at}
 use Rattle.sshcore.specs.EndpointParts.{ConfigData}
 
--- what of the units received is the version, and what are payloads
+-- the peer's version line among the units received: the first of them
 abbrev pub version_in : Units → List ℕ
 version_in [] = []
 version_in (version ∷ payloads) = version
 
+-- the payloads among the units received: all but the version line
 abbrev pub payloads_in : Units → Units
 payloads_in units = drop 1 units
 
@@ -38,7 +39,7 @@ abbrev pub others_of : Side → ℕ
 others_of Client = OTHER_LINE_LIMIT
 others_of Server = 0
 
--- which lines are a version line to a reader of this role
+-- the form of version lines by which a reader of this role reads: strict, or as deployed peers write to a client or to a server
 abbrev pub form_of : PeerReading → Side → LineForm
 form_of Strict role = line_form.Strict
 form_of Deployed Client = line_form.Deployed read_by.Client
@@ -46,31 +47,31 @@ form_of Deployed Server = line_form.Deployed read_by.Server
 
 -- of the sizes of the units received, those of the packets since the key switch
 abbrev pub sizes_since : Side → ConfigData → Units → List ℕ → List ℕ
-sizes_since role party before sizes = drop (length sizes - since role party.offer SSH_MSG_NEWKEYS before) sizes
+sizes_since role config before sizes = drop (length sizes - since role config.offer SSH_MSG_NEWKEYS before) sizes
 
 -- The keys of what is received: none up to the key switch, which is the first NEWKEYS that isn't dropped (RFC 4253 section 7.3); then the
 -- exchange's, which advance with the size of each packet.
 abbrev pub keys_in : SuiteData → Side → ConfigData → List ℕ → Units → List ℕ → Option KeysData
-keys_in m role party version before sizes =
-    if stood role party.offer SSH_MSG_NEWKEYS before then Some (all_advanced m (keys_at m role party version before (other role)) (sizes_since role party before sizes)) else None
+keys_in m role config version before sizes =
+    if stood role config.offer SSH_MSG_NEWKEYS before then Some (all_advanced m (keys_at m role config version before (other role)) (sizes_since role config before sizes)) else None
 
 -- how the next packet is protected
 abbrev pub protection_in : SuiteData → Side → ConfigData → List ℕ → Units → List ℕ → ProtectionData
-protection_in m role party version before sizes = protection m (keys_in m role party version before sizes) (number_in role party before)
+protection_in m role config version before sizes = protection m (keys_in m role config version before sizes) (number_in role config before)
 
--- how the next unit is read after these: lines first, then packets
+-- how the next unit is read after units of these sizes: lines first, by the config's `reading` and the role, then packets
 abbrev pub parsers : SuiteData → Side → ConfigData → Parsers
-parsers m role party [] sizes = preamble_parser_by (form_of party.reading role) (others_of role)
-parsers m role party (version ∷ before) sizes = parse_packet (protection_in m role party version before sizes)
+parsers m role config [] sizes = preamble_parser_by (form_of config.reading role) (others_of role)
+parsers m role config (version ∷ before) sizes = parse_packet (protection_in m role config version before sizes)
 
 -- the lines that are sent first: notices and the version line
 abbrev pub preamble_of : ConfigData → List ℕ
-preamble_of party = flat_map version_line party.notices ++ version_line party.version
+preamble_of config = flat_map version_line config.notices ++ version_line config.version
 
 -- the keys of what is sent: none up to the NEWKEYS that was sent, the exchange's after it, which advance with each packet
 abbrev pub keys_out : SuiteData → Side → ConfigData → Units → Units → Option KeysData
-keys_out m role party received sent =
-    if switched_out sent then Some (after_all m (keys_at m role party (version_in received) (payloads_in received) role) (after_first is_newkeys [] sent)) else None
+keys_out m role config received sent =
+    if switched_out sent then Some (after_all m (keys_at m role config (version_in received) (payloads_in received) role) (after_first is_newkeys [] sent)) else None
 
 -- a payload as a packet, in clear or sealed (RFC 4253 section 6)
 abbrev pub spelled_by : SuiteData → Option KeysData → List ℕ → ℕ → List ℕ → List ℕ
@@ -79,6 +80,6 @@ spelled_by m (Some keys) seed seq payload = written_sealed m keys seed seq paylo
 
 -- how a unit is spelled after those sent before, by an endpoint that has received these units
 abbrev pub spells : SuiteData → Side → ConfigData → Units → Units → List ℕ → List ℕ
-spells m role party received [] version = preamble_of party
-spells m role party received (version ∷ sent) payload =
-    spelled_by m (keys_out m role party received sent) party.seed (number_out (strict_at role party (payloads_in received)) sent) payload
+spells m role config received [] version = preamble_of config
+spells m role config received (version ∷ sent) payload =
+    spelled_by m (keys_out m role config received sent) config.seed (number_out (strict_at role config (payloads_in received)) sent) payload

@@ -13,7 +13,7 @@ use Rattle.sshcore.specs.declared.end.End.TheVariants as end
 use Rattle.sshcore.specs.declared.end.Fault.{Fault}
 use Rattle.sshcore.specs.declared.end.Fault.TheVariants as fault
 
--- what both sides agreed on
+-- what both sides agreed on: algorithms, strictness, session identifier, user and service
 pub record AgreedData : Type 0 where
   pub algorithms : AlgorithmsData
   pub strict : Bool
@@ -21,6 +21,8 @@ pub record AgreedData : Type 0 where
   pub user : List ℕ
   pub service : List ℕ
 
+-- How an endpoint is: open, authenticated, failed, closed by the peer's DISCONNECT, or disconnected by its owner, the last two with the
+-- reason (RFC 4253 section 11.1).
 pub data EndData : Type 0 where
   Open : EndData
   Authenticated : AgreedData → EndData
@@ -28,7 +30,7 @@ pub data EndData : Type 0 where
   Closed : ℕ → EndData
   Disconnected : ℕ → EndData
 
--- an end without where its texts lie in memory
+-- what both sides agreed on, without where its texts lie in memory
 abbrev pub agreed_data : Agreed → AgreedData
 agreed_data a = record {
   algorithms = record {
@@ -47,6 +49,7 @@ agreed_data a = record {
   service = string_bytes a.service;
 }
 
+-- the twin of an `End`
 abbrev pub end_data : End → EndData
 end_data end.Open = Open
 end_data (end.Authenticated a) = Authenticated (agreed_data a)
@@ -54,20 +57,21 @@ end_data (end.Failed f) = Failed f
 end_data (end.Closed reason) = Closed reason
 end_data (end.Disconnected reason) = Disconnected reason
 
--- the endpoint's owner ended it: its input was cut off, or it was told to disconnect
+-- the endpoint's owner ended it: its input was cut off, or it was told to disconnect (profile)
 abbrev pub by_owner : EndData → Bool
 by_owner (Failed fault.Cut) = true
 by_owner (Disconnected reason) = true
 by_owner _ = false
 
--- it is open, or what was received ended it: neither did its owner, nor did memory run out
+-- an endpoint is open, or what it received ended it: neither its owner did, nor memory that ran out (profile)
 abbrev pub by_input : EndData → Bool
 by_input (Failed fault.Memory) = false
 by_input (Failed fault.Cut) = false
 by_input (Disconnected reason) = false
 by_input _ = true
 
--- the reason of the DISCONNECT that a failure sends (RFC 4253 section 11.1), or none where nothing is sent
+-- the reason of the DISCONNECT that a failure sends (RFC 4253 section 11.1), or none where nothing is sent (which failure has which is
+-- profile)
 abbrev pub reason_of : Fault → Option ℕ
 reason_of fault.Version = None
 reason_of fault.Length = Some SSH_DISCONNECT_PROTOCOL_ERROR
@@ -87,11 +91,12 @@ reason_of fault.Memory = None
 reason_of fault.Cut = None
 reason_of fault.TooMuchIgnored = Some SSH_DISCONNECT_PROTOCOL_ERROR
 
--- the DISCONNECT, with empty texts
+-- the DISCONNECT, with empty texts (RFC 4253 section 11.1; the empty texts are profile)
 abbrev pub disconnect_by : Option ℕ → Units
 disconnect_by None = []
 disconnect_by (Some reason) = written_message (Disconnect reason [] []) ∷ []
 
+-- what an endpoint sends when it fails so: one DISCONNECT, or nothing (RFC 4253 section 11.1)
 abbrev pub disconnect : Fault → Units
 disconnect f = disconnect_by (reason_of f)
 
@@ -112,7 +117,7 @@ fails f = record { answers = disconnect f; end = Failed f }
 abbrev pub description_sent : List ℕ → List ℕ
 description_sent text = if nat_le (length text) DESCRIPTION_LIMIT then text else []
 
--- the DISCONNECT of an endpoint that its owner ends, with an empty language tag (RFC 4253 section 11.1)
+-- the DISCONNECT of an endpoint that its owner ends, with an empty language tag (RFC 4253 section 11.1) (the empty tag is profile)
 abbrev pub parting : ℕ → List ℕ → List ℕ
 parting reason description = written_message (Disconnect reason (description_sent description) [])
 

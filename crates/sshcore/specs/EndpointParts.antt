@@ -28,6 +28,7 @@ pub record ConfigData : Type 0 where
   pub tries : ℕ
   pub banner : Option (List ℕ)
 
+-- what an endpoint uses of a client's config
 abbrev pub config_of_client : ClientData → ConfigData
 config_of_client client = record {
   version = version_of client.side;
@@ -48,6 +49,7 @@ config_of_client client = record {
   banner = None;
 }
 
+-- what an endpoint uses of a server's config
 abbrev pub config_of_server : ServerData → ConfigData
 config_of_server server = record {
   version = version_of server.side;
@@ -68,7 +70,7 @@ config_of_server server = record {
   banner = server.banner;
 }
 
--- what a request proves: nothing, a password, or a key by its algorithm and blob
+-- what a request proves: nothing, a password, or a key by its algorithm and blob (RFC 4252 sections 5.2, 7 and 8)
 pub data ProofData : Type 0 where
   NoProof : ProofData
   PasswordProof : List ℕ → ProofData
@@ -79,9 +81,10 @@ pub record UserKeyData : Type 0 where
   pub algorithm : List ℕ
   pub blob : List ℕ
 
--- The decisions of whoever runs an endpoint: on a host key (algorithm and blob); on a request (its number from 1, user, service and
--- proof); and which signature is made by a key that the suite doesn't hold, if one is (how many attempts of a client's plan are left
--- after this one, 0 at a server; algorithm, public key, and what is signed).
+-- The decisions of whoever runs an endpoint (RFC 4251 section 4.1, RFC 4252 sections 5 and 7, RFC 4253 section 8). `host_key`: whether a
+-- host key is trusted, by algorithm and blob. `user`: whether a request is accepted, by its number from 1, user, service and proof.
+-- `signature`: the signature by a key that the suite doesn't hold, if one is made (profile). It depends on how many attempts are left after
+-- this one, 0 at a server, on algorithm and public key, and on what is signed.
 pub record DecisionsData : Type 0 where
   pub host_key : List ℕ → List ℕ → Bool
   pub user : ℕ → List ℕ → List ℕ → ProofData → Bool
@@ -94,12 +97,14 @@ pub record Setup : Type 0 where
   pub role : Side
   pub config : ConfigData
 
+-- the setup of these four
 abbrev pub setup_with : SuiteData → DecisionsData → Side → ConfigData → Setup
 setup_with suite decisions role config = record { suite = suite; decisions = decisions; role = role; config = config }
 
--- of a client, and of a server
+-- the setup of a client with this config
 abbrev pub client_setup : SuiteData → DecisionsData → ClientData → Setup
 client_setup suite decisions client = setup_with suite decisions Client (config_of_client client)
 
+-- the setup of a server with this config
 abbrev pub server_setup : SuiteData → DecisionsData → ServerData → Setup
 server_setup suite decisions server = setup_with suite decisions Server (config_of_server server)

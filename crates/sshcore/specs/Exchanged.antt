@@ -12,7 +12,7 @@ use Rattle.sshpacket.specs.KeysData.{KeysData}
 use Rattle.sshpacket.specs.declared.limits.TheConstants.{DIGEST_LIMIT}
 use Rattle.sshpacket.specs.Suite.{ResponseData, SuiteData}
 use Rattle.sshcore.specs.declared.end.Fault.TheVariants as fault
-use Rattle.sshcore.specs.declared.table.Phase.TheVariants as phase
+use Rattle.sshcore.specs.declared.phase_table.Phase.TheVariants as phase
 use Rattle.sshcore.specs.Brings.{Gives, IsOngoing, StandsAt}
 use Rattle.sshcore.specs.Chosen.{cipher_of, mac_of}
 use Rattle.sshcore.specs.EndData.{Reply, fails}
@@ -22,10 +22,10 @@ use Rattle.sshcore.specs.History.{AllFit, FitsPacket}
 use Rattle.sshcore.specs.StateData.{StateData, with_exchange}
 use Rattle.sshcore.specs.Output.{Sending, sending_from, sent_from, with_newkeys, with_packet}
 use Rattle.sshcore.specs.Work.{reply_in, told_by, userauth}
-use Rattle.sshcore.specs.Known.{Known}
+use Rattle.sshcore.specs.KnownBefore.{Known}
 use Rattle.sshcore.specs.EndpointParts.{ConfigData, DecisionsData}
 use Rattle.sshcore.specs.Signatures.{signature_by}
-use Rattle.sshcore.specs.declared.exchange.Signed.{Signed}
+use Rattle.sshcore.specs.declared.kex_exchange.Signed.{Signed}
 use Rattle.sshcore.specs.Phases.{past_exchange, past_kexinit}
 
 -- the form of shares is that of the method, once there is one; and before the exchange nothing is sealed
@@ -42,11 +42,11 @@ pub record SharesData : Type 0 where
 
 -- what is hashed of that at an endpoint of this role
 abbrev pub exchanged : Side → ConfigData → Known → SharesData → ExchangeData
-exchanged role party known shares = record {
-  client_version = client_of role party.version known.version;
-  server_version = server_of role party.version known.version;
-  client_kexinit = client_of role (own_kexinit party) known.kexinit;
-  server_kexinit = server_of role (own_kexinit party) known.kexinit;
+exchanged role config known shares = record {
+  client_version = client_of role config.version known.version;
+  server_version = server_of role config.version known.version;
+  client_kexinit = client_of role (own_kexinit config) known.kexinit;
+  server_kexinit = server_of role (own_kexinit config) known.kexinit;
   host_key = shares.host_key;
   client_share = shares.client_share;
   server_share = shares.server_share;
@@ -61,85 +61,85 @@ kex_keys m a shared hash sender =
 
 -- what is hashed, once this message has come
 abbrev pub exchange_of_message : SuiteData → Side → ConfigData → Known → MessageData → ExchangeData
-exchange_of_message m role party known message = exchange_with m role party known.algorithms known.version known.kexinit (Ok message)
+exchange_of_message m role config known message = exchange_with m role config known.algorithms known.version known.kexinit (Ok message)
 
 -- It receives the exchange message: it gives this reply; and where it goes on it stands after the exchange, with the keys of what
 -- is received and the host key.
-pub record ReceivesExchange (m : SuiteData) (role : Side) (party : ConfigData) (old new : StateData) (before after : List ℕ) (message : MessageData) (r : Reply) : Type 0 where
-  pub gives : Gives m party.seed old.known.strict (keys_by m old.known.algorithms (exchange_of_message m role party old.known message) role) old new before after r
-  pub carries : IsOngoing new.end → new.carried ≡ with_exchange party (keys_by m old.known.algorithms (exchange_of_message m role party old.known message) (other role))
-      (exchange_of_message m role party old.known message).host_key old.carried
+pub record ReceivesExchange (m : SuiteData) (role : Side) (config : ConfigData) (old new : StateData) (before after : List ℕ) (message : MessageData) (r : Reply) : Type 0 where
+  pub gives : Gives m config.seed old.known.strict (keys_by m old.known.algorithms (exchange_of_message m role config old.known message) role) old new before after r
+  pub carries : IsOngoing new.end → new.carried ≡ with_exchange config (keys_by m old.known.algorithms (exchange_of_message m role config old.known message) (other role))
+      (exchange_of_message m role config old.known message).host_key old.carried
   pub stands : IsOngoing new.end → StandsAt new phase.NewKeys old.guess
-      (record old.known { session = exchange_hash m old.known.algorithms.kex (exchange_of_message m role party old.known message) })
+      (record old.known { session = exchange_hash m old.known.algorithms.kex (exchange_of_message m role config old.known message) })
 
 -- what a client and its server have given, once the client has received the server's host key and share and made this shared
 -- secret
 abbrev pub client_shares : SuiteData → ConfigData → Known → List ℕ → List ℕ → List ℕ → SharesData
-client_shares m party known host_key share shared = record {
+client_shares m config known host_key share shared = record {
   host_key = host_key;
-  client_share = m.share known.algorithms.kex party.random;
+  client_share = m.share known.algorithms.kex config.random;
   server_share = share;
   shared = shared;
 }
 
 -- what a server and its client have given, once the server has answered the client's share
 abbrev pub server_shares : SuiteData → ConfigData → Known → List ℕ → ResponseData → SharesData
-server_shares m party known share answer = record {
-  host_key = m.blob known.algorithms.host_key (secret_of party.host_keys known.algorithms.host_key);
+server_shares m config known share answer = record {
+  host_key = m.blob known.algorithms.host_key (secret_of config.host_keys known.algorithms.host_key);
   client_share = share;
   server_share = answer.share;
   shared = answer.shared;
 }
 
 -- The exchange hash of a server that has answered so, its host key, and the message with its signature.
-pub record IsSigned (m : SuiteData) (d : DecisionsData) (role : Side) (party : ConfigData) (known : Known) (share : List ℕ) (answer : ResponseData) (hash host_key reply : List ℕ) : Type 0 where
-  pub hash_is : hash ≡ exchange_hash m known.algorithms.kex (exchanged role party known (server_shares m party known share answer))
+pub record IsSigned (m : SuiteData) (d : DecisionsData) (role : Side) (config : ConfigData) (known : Known) (share : List ℕ) (answer : ResponseData) (hash host_key reply : List ℕ) : Type 0 where
+  pub hash_is : hash ≡ exchange_hash m known.algorithms.kex (exchanged role config known (server_shares m config known share answer))
   pub short : length hash ≤ DIGEST_LIMIT
-  pub host_key_is : host_key ≡ (server_shares m party known share answer).host_key
+  pub host_key_is : host_key ≡ (server_shares m config known share answer).host_key
   pub signature : List ℕ
-  pub signed : signature_by m d 0 known.algorithms.host_key (secret_of party.host_keys known.algorithms.host_key) hash ≡ Some signature
-  pub reply_is : reply ≡ written_message (reply_in (m.share_form known.algorithms.kex) (server_shares m party known share answer).host_key answer.share signature)
+  pub signed : signature_by m d 0 known.algorithms.host_key (secret_of config.host_keys known.algorithms.host_key) hash ≡ Some signature
+  pub reply_is : reply ≡ written_message (reply_in (m.share_form known.algorithms.kex) (server_shares m config known share answer).host_key answer.share signature)
   pub fits : FitsPacket reply
 
 -- What came of signing: that, or no signature was made.
 abbrev pub Signs : SuiteData → DecisionsData → Side → ConfigData → Known → List ℕ → ResponseData → Option Signed → Type 0
-Signs m d role party known share answer None =
-    signature_by m d 0 known.algorithms.host_key (secret_of party.host_keys known.algorithms.host_key)
-    (exchange_hash m known.algorithms.kex (exchanged role party known (server_shares m party known share answer))) ≡ None
-Signs m d role party known share answer (Some s) = IsSigned m d role party known share answer s.hash.items s.host_key.items s.reply.items
+Signs m d role config known share answer None =
+    signature_by m d 0 known.algorithms.host_key (secret_of config.host_keys known.algorithms.host_key)
+    (exchange_hash m known.algorithms.kex (exchanged role config known (server_shares m config known share answer))) ≡ None
+Signs m d role config known share answer (Some s) = IsSigned m d role config known share answer s.hash.items s.host_key.items s.reply.items
 
 -- what is kept after an exchange of this host key, shared secret and hash, with these packets sent
-pub record StandsAfter (m : SuiteData) (role : Side) (party : ConfigData) (old new : StateData) (host_key shared hash : List ℕ) (o : Sending) : Type 0 where
+pub record StandsAfter (m : SuiteData) (role : Side) (config : ConfigData) (old new : StateData) (host_key shared hash : List ℕ) (o : Sending) : Type 0 where
   pub kept : new ≡ record old {
     phase = phase.NewKeys;
     known = record old.known { session = hash };
-    carried = with_exchange party (kex_keys m old.known.algorithms shared hash (other role)) host_key old.carried;
+    carried = with_exchange config (kex_keys m old.known.algorithms shared hash (other role)) host_key old.carried;
     sending = o;
   }
 
 -- A server sends its answer, NEWKEYS and what it tells a client that asks, and stands after the exchange.
-pub record AnswersInit (m : SuiteData) (role : Side) (party : ConfigData) (old new : StateData) (host_key shared hash reply before after : List ℕ) : Type 0 where
+pub record AnswersInit (m : SuiteData) (role : Side) (config : ConfigData) (old new : StateData) (host_key shared hash reply before after : List ℕ) : Type 0 where
   pub output : let next = kex_keys m old.known.algorithms shared hash role in
-      after ≡ ((before ++ spelled_by m old.sending.keys party.seed old.sending.number reply)
-      ++ spelled_by m (with_packet m reply old.sending).keys party.seed (with_packet m reply old.sending).number (written_message NewKeys))
-      ++ sent_from m party.seed old.known.strict next (with_newkeys old.known.strict next (with_packet m reply old.sending)) (told_by party old.known)
+      after ≡ ((before ++ spelled_by m old.sending.keys config.seed old.sending.number reply)
+      ++ spelled_by m (with_packet m reply old.sending).keys config.seed (with_packet m reply old.sending).number (written_message NewKeys))
+      ++ sent_from m config.seed old.known.strict next (with_newkeys old.known.strict next (with_packet m reply old.sending)) (told_by config old.known)
   pub stands : let next = kex_keys m old.known.algorithms shared hash role in
-      StandsAfter m role party old new host_key shared hash
-      (sending_from m old.known.strict next (with_newkeys old.known.strict next (with_packet m reply old.sending)) (told_by party old.known))
-  pub fits : AllFit (told_by party old.known)
+      StandsAfter m role config old new host_key shared hash
+      (sending_from m old.known.strict next (with_newkeys old.known.strict next (with_packet m reply old.sending)) (told_by config old.known))
+  pub fits : AllFit (told_by config old.known)
 
--- the same of a client, which sends NEWKEYS and requests the service
-pub record AcceptsReply (m : SuiteData) (role : Side) (party : ConfigData) (old new : StateData) (host_key shared hash before after : List ℕ) : Type 0 where
+-- A client has accepted the server's exchange message: it sends NEWKEYS and requests the service.
+pub record AcceptsReply (m : SuiteData) (role : Side) (config : ConfigData) (old new : StateData) (host_key shared hash before after : List ℕ) : Type 0 where
   pub output : let o = with_newkeys old.known.strict (kex_keys m old.known.algorithms shared hash role) old.sending in
-      after ≡ (before ++ spelled_by m old.sending.keys party.seed old.sending.number (written_message NewKeys))
-      ++ spelled_by m o.keys party.seed o.number (written_message (ServiceRequest userauth))
-  pub stands : StandsAfter m role party old new host_key shared hash (with_packet m (written_message (ServiceRequest userauth)) (with_newkeys old.known.strict (kex_keys m old.known.algorithms shared hash role) old.sending))
+      after ≡ (before ++ spelled_by m old.sending.keys config.seed old.sending.number (written_message NewKeys))
+      ++ spelled_by m o.keys config.seed o.number (written_message (ServiceRequest userauth))
+  pub stands : StandsAfter m role config old new host_key shared hash (with_packet m (written_message (ServiceRequest userauth)) (with_newkeys old.known.strict (kex_keys m old.known.algorithms shared hash role) old.sending))
 
 -- A client judges the signature over what both have given: it accepts, or fails.
-pub data JudgesReply (m : SuiteData) (role : Side) (party : ConfigData) (old new : StateData) (shares : SharesData) (signature before after : List ℕ) : Type 0 where
-  Accepts : m.verify old.known.algorithms.host_key shares.host_key (exchange_hash m old.known.algorithms.kex (exchanged role party old.known shares)) signature ≡ true
-      → AcceptsReply m role party old new shares.host_key shares.shared (exchange_hash m old.known.algorithms.kex (exchanged role party old.known shares)) before after
-      → JudgesReply m role party old new shares signature before after
-  Refuses : m.verify old.known.algorithms.host_key shares.host_key (exchange_hash m old.known.algorithms.kex (exchanged role party old.known shares)) signature ≡ false
-      → ((strict : Bool) (next : KeysData) → Gives m party.seed strict next old new before after (fails fault.Signature))
-      → JudgesReply m role party old new shares signature before after
+pub data JudgesReply (m : SuiteData) (role : Side) (config : ConfigData) (old new : StateData) (shares : SharesData) (signature before after : List ℕ) : Type 0 where
+  Accepts : m.verify old.known.algorithms.host_key shares.host_key (exchange_hash m old.known.algorithms.kex (exchanged role config old.known shares)) signature ≡ true
+      → AcceptsReply m role config old new shares.host_key shares.shared (exchange_hash m old.known.algorithms.kex (exchanged role config old.known shares)) before after
+      → JudgesReply m role config old new shares signature before after
+  Refuses : m.verify old.known.algorithms.host_key shares.host_key (exchange_hash m old.known.algorithms.kex (exchanged role config old.known shares)) signature ≡ false
+      → ((strict : Bool) (next : KeysData) → Gives m config.seed strict next old new before after (fails fault.Signature))
+      → JudgesReply m role config old new shares signature before after

@@ -7,7 +7,7 @@ use Rattle.sshneg.specs.declared.side.Side.{Side}
 use Rattle.sshpacket.specs.Parse.{Refusal}
 use Rattle.sshpacket.specs.Places.{EachPlace, IsPrefix}
 use Rattle.sshpacket.specs.Stream.{Received, Sent, Units}
-use Rattle.sshcore.specs.declared.table.Phase.TheVariants as phase
+use Rattle.sshcore.specs.declared.phase_table.Phase.TheVariants as phase
 use Rattle.sshcore.specs.Before.{offered, stood}
 use Rattle.sshcore.specs.Counting.{switched_out}
 use Rattle.sshcore.specs.Directions.{parsers, payloads_in, spells}
@@ -22,17 +22,18 @@ pub record FitsPacket (payload : List ℕ) : Type 0 where
   pub short : length payload ≤ PAYLOAD_LIMIT
   pub bytes : IsBytes payload
 
+-- each of these payloads has some bytes, and no more than every side takes (RFC 4253 section 6.1)
 abbrev pub AllFit : Units → Type 0
 AllFit answers = EachPlace (λ before payload. FitsPacket payload) [] answers
 
--- the exchange was received, so both directions have their keys
-pub record IsReady (role : Side) (party : ConfigData) (payloads : Units) : Type 0 where
+-- the exchange was received, so both directions have their keys (RFC 4253 section 7.2)
+pub record IsReady (role : Side) (config : ConfigData) (payloads : Units) : Type 0 where
   pub offer : offered payloads ≡ true
-  pub exchange : stood role party.offer (leaving role phase.Exchange) payloads ≡ true
+  pub exchange : stood role config.offer (leaving role phase.Exchange) payloads ≡ true
 
--- An endpoint that stands or ends so has received bytes that read as these units with a rest, which may be refused, and has sent
--- bytes that spell its version line and these answers; the units received have these sizes. What was sent fits packets; it is sealed only where the exchange was
--- received; and nothing was taken after the unit that ended the endpoint.
+-- The history of an endpoint (RFC 4253 sections 4 to 11). The bytes received read as these units, of these sizes, and a rest, which may be
+-- refused. The bytes sent spell the version line and these answers, and the endpoint ends so. What was sent fits packets, and is sealed
+-- only where the exchange was received. Nothing was taken after the unit that ended the endpoint.
 pub record History (setup : Setup) (units : Units) (sizes rest : List ℕ) (refusal : Option Refusal) (answers : Units) (end : EndData) (received_bytes sent_bytes : List ℕ) : Type 0 where
   pub received : Received (parsers setup.suite setup.role setup.config) received_bytes units sizes rest refusal
   pub sent : Sent (spells setup.suite setup.role setup.config units) sent_bytes (setup.config.version ∷ answers)
@@ -41,7 +42,7 @@ pub record History (setup : Setup) (units : Units) (sizes rest : List ℕ) (refu
   pub keyed : switched_out answers ≡ true → IsReady setup.role setup.config (payloads_in units)
   pub last : end ≢ Open → refusal ≡ None → rest ≡ []
 
--- What was sent where memory ran out: whole packets, a prefix of the answers that would have been given.
+-- What was sent where memory ran out: whole packets, a prefix of the answers that would have been given (profile).
 pub record BrokenOff (setup : Setup) (received_bytes sent_bytes : List ℕ) : Type 0 where
   pub units : Units
   pub sizes : List ℕ

@@ -14,7 +14,7 @@ use Rattle.sshpacket.specs.Suite.{SuiteData}
 use Rattle.sshcore.specs.declared.end.Fault.TheVariants as fault
 use Rattle.sshcore.specs.declared.input.Input.{Input}
 use Rattle.sshcore.specs.declared.input.Input.TheVariants as input
-use Rattle.sshcore.specs.declared.table.Phase.{Phase}
+use Rattle.sshcore.specs.declared.phase_table.Phase.{Phase}
 use Rattle.sshcore.specs.Brings.{IsOngoing}
 use Rattle.sshcore.specs.Counting.{number_in}
 use Rattle.sshcore.specs.Directions.{form_of, keys_in, others_of, payloads_in, version_in}
@@ -29,12 +29,12 @@ use Rattle.sshcore.specs.Phases.{past_exchange, past_newkeys}
 use Rattle.sshcore.specs.Standing.{Sits}
 use Rattle.sshcore.specs.Tries.{last_key, successful_keys_at}
 
--- its reader may be given bytes
+-- the reader may be given bytes: the version line hasn't been read yet, or the packet reader waits
 abbrev pub CanRead : SuiteData → Input → Type 0
 CanRead m (input.Lines reader) = reader.state.progress ≢ Finished
 CanRead m (input.Packets reader) = ReaderWaits m reader
 
--- how many bytes of the unfinished line or packet it holds
+-- how many bytes of an unfinished line or packet the reader holds
 abbrev pub held_by : Input → ℕ
 held_by (input.Lines reader) = held reader.state.progress
 held_by (input.Packets reader) = length (packet_reader_data reader).held
@@ -49,16 +49,16 @@ turns_left (Failed f) i = 0
 turns_left (Closed reason) i = 0
 turns_left (Disconnected reason) i = 0
 
--- The reader of what is received: of lines, in the form that its config has, up to the version line; then of packets, with
--- the keys and the number of the next one, and with the bytes of the unfinished one.
+-- The reader of what is received (RFC 4253 sections 4.2, 6 and 6.4). Up to the version line it reads lines, in the form of the config. Then
+-- it reads packets, with the keys and the number of the next one, and holds the bytes of the unfinished one.
 abbrev pub IsInput : SuiteData → Side → ConfigData → Units → List ℕ → List ℕ → Input → Type 0
-IsInput m role party units sizes rest (input.Lines reader) =
-    (units ≡ []) × StandsOpen (others_of role) rest reader.state.progress × (reader.form ≡ form_of party.reading role)
-IsInput m role party units sizes rest (input.Packets reader) =
+IsInput m role config units sizes rest (input.Lines reader) =
+    (units ≡ []) × StandsOpen (others_of role) rest reader.state.progress × (reader.form ≡ form_of config.reading role)
+IsInput m role config units sizes rest (input.Packets reader) =
     (version : List ℕ) × (before : Units) × (units ≡ version ∷ before)
-    × (packet_reader_data reader ≡ record { keys = keys_in m role party version before sizes; seq = number_in role party before; held = rest; fault = None })
+    × (packet_reader_data reader ≡ record { keys = keys_in m role config version before sizes; seq = number_in role config before; held = rest; fault = None })
 
--- the keys of what is received are kept from the exchange up to NEWKEYS
+-- the keys of what is received are kept from the exchange up to NEWKEYS (RFC 4253 section 7.3)
 abbrev pub pending_at : Phase → KeysData → Option KeysData
 pending_at p keys = if past_exchange p && not (past_newkeys p) then Some keys else None
 
@@ -79,12 +79,14 @@ pub record IsInside (setup : Setup) (units answers : Units) (sizes rest : List �
   pub speaks : Speaks setup.suite setup.role setup.config units answers kept.sending
 
 -- how an endpoint stands that has come to this end by what it received: so; or, where it stood open, cut off, or told to disconnect
+-- (profile)
 pub data StandsSo (received_end end : EndData) : Type 0 where
   AsReceived : end ≡ received_end → StandsSo received_end end
   CutOff : received_end ≡ Open → end ≡ Failed fault.Cut → StandsSo received_end end
   Left : (reason : ℕ) → received_end ≡ Open → end ≡ Disconnected reason → StandsSo received_end end
 
--- An endpoint that keeps this, with this reader, has received and sent these bytes; of one that left, what it sent before that.
+-- An endpoint that keeps this, with this reader, has received and sent these bytes; of one that left, what it sent before that (RFC 4253
+-- sections 4 to 11).
 pub record EndpointStands (setup : Setup) (kept : StateData) (i : Input) (received_bytes sent_bytes : List ℕ) : Type 0 where
   pub units : Units
   pub sizes : List ℕ
@@ -107,7 +109,7 @@ pub record GoesOn (setup : Setup) (new : StateData) (j : Input) (h s taken befor
 abbrev pub Steps : Setup → Input → StateData → Input → StateData → List ℕ → List ℕ → List ℕ → Type 0
 Steps setup i old j new taken before after = (h s : List ℕ) → EndpointStands setup old i h s → GoesOn setup new j h s taken before after
 
--- before any byte is received, of a reader of lines of this form
+-- before any byte is received, of a reader of lines of this form (RFC 4253 section 4.2)
 abbrev pub Begins : Side → LineForm → Input → Type 0
 Begins role form (input.Lines reader) =
     (StandsOpen (others_of role) [] reader.state.progress) × (reader.form ≡ form) × (reader.state.progress ≢ Finished)

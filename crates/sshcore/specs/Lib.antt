@@ -5,10 +5,10 @@ pub mod Phases
 pub mod Counting
 pub mod Exchange
 pub mod Plan
-pub mod Reached
+pub mod CompletedMethods
 pub mod IgnoredLimit
 pub mod Tries
-pub mod Known
+pub mod KnownBefore
 pub mod Table
 pub mod EndData
 pub mod Printed
@@ -35,7 +35,7 @@ pub mod MadeWith
 pub mod Chosen
 pub mod ChosenView
 pub mod NamesView
-pub mod Made
+pub mod MadePayloads
 pub mod Authenticating
 pub mod StateData
 pub mod Shown

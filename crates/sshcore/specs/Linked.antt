@@ -19,8 +19,8 @@ use Rattle.sshcore.specs.declared.link.TheConstants.{LINK_BYTES_LIMIT, LINK_LIMI
 use Rattle.sshcore.specs.declared.link_fault.LinkFault.{LinkFault}
 use Rattle.sshcore.specs.declared.link_fault.LinkFault.TheVariants as fault
 
--- what it seals with: the keys, the number of the next packet, what padding is made of; how many packets it has sealed, and how many
--- bytes they had
+-- what a link seals with: the keys and the number of the next packet, the seed of padding, how many packets it has sealed and how many
+-- bytes they had (RFC 4253 sections 6 and 6.4)
 pub record Outgoing : Type 0 where
   pub keys : KeysData
   pub number : ℕ
@@ -28,7 +28,7 @@ pub record Outgoing : Type 0 where
   pub sealed : ℕ
   pub bytes : ℕ
 
--- what it opens with, its reader; and how many packets it has opened
+-- what a link opens with: its reader, and how many packets it has opened
 pub record Incoming : Type 0 where
   pub reader : PacketReader
   pub opened : ℕ
@@ -39,16 +39,19 @@ packet_ended [] zero = 0
 packet_ended [] (suc n) = 1
 packet_ended (b ∷ held) n = 0
 
+-- the twin of what a link seals with
 unfoldable pub outgoing_of : Link → Outgoing
 outgoing_of l = record { keys = l.keys; number = l.number; seed = l.seed; sealed = l.sealed; bytes = l.sealed_bytes }
 
+-- the twin of what a link opens with
 unfoldable pub incoming_of : Link → Incoming
 incoming_of l = record { reader = l.reader; opened = l.opened + packet_ended (packet_reader_data l.reader).held (last_used l.reader) }
 
--- at the beginning, by what a session has of this direction
+-- what a link begins to seal with, by what a session has of this direction
 abbrev pub sent_by : Direction → List ℕ → Outgoing
 sent_by direction seed = record { keys = direction.keys; number = direction.sequence_number; seed = seed; sealed = 0; bytes = 0 }
 
+-- A link begins to open with the keys and the sequence number of this direction of a session. It holds nothing and has opened no packet.
 pub record BeginsBy (direction : Direction) (i : Incoming) : Type 0 where
   pub state_is : packet_reader_data i.reader ≡ record { keys = Some direction.keys; seq = direction.sequence_number; held = []; fault = None }
   pub none_used : last_used i.reader ≡ 0
@@ -58,40 +61,41 @@ pub record BeginsBy (direction : Direction) (i : Incoming) : Type 0 where
 abbrev pub LinkWaits : SuiteData → Incoming → Type 0
 LinkWaits m i = ReaderWaits m i.reader
 
--- a payload can be sealed: it has 1 to 32768 bytes, and the keys are used up neither by packets nor by bytes
+-- a payload can be sealed: it has 1 to 32768 bytes, and the keys are used up neither by packets nor by bytes (RFC 4253 section 6.1; 2^31
+-- and 2^35 are profile (RFC 4344 sections 3.1 and 3.2))
 pub record CanSeal (o : Outgoing) (payload : List ℕ) : Type 0 where
   pub some : 0 < length payload
   pub short : length payload ≤ PAYLOAD_LIMIT
   pub left : o.sealed < LINK_LIMIT
   pub bytes_left : o.bytes < LINK_BYTES_LIMIT
 
--- why it isn't sealed
+-- why a payload isn't sealed: its length, packets or bytes that are used up, or out of memory, the first two exactly where they are so
 abbrev pub SealRefused : Outgoing → List ℕ → LinkFault → Type 0
 SealRefused o payload fault.Payload = (payload ≡ []) ⊎ (PAYLOAD_LIMIT < length payload)
 SealRefused o payload fault.UsedUp = (0 < length payload) × (length payload ≤ PAYLOAD_LIMIT) × ((LINK_LIMIT ≤ o.sealed) ⊎ (LINK_BYTES_LIMIT ≤ o.bytes))
 SealRefused o payload (fault.Packet f) = ⊥
 SealRefused o payload fault.Memory = CanSeal o payload
 
--- the packet of a payload, sealed
+-- the packet of a payload, sealed (RFC 4253 section 6)
 abbrev pub sealed_by : SuiteData → Outgoing → List ℕ → List ℕ
 sealed_by m o payload = written_sealed m o.keys o.seed o.number payload
 
--- after it: the next keys, the next number, in 32 bits, one packet more, and its bytes
+-- after it: the next keys, the next number, in 32 bits, one packet more, and its bytes (RFC 4253 sections 6.3 and 6.4)
 abbrev pub raised : SuiteData → List ℕ → Outgoing → Outgoing
 raised m payload o = record o { keys = after_sealed m o.keys payload; number = (o.number + 1) % 2 ^ 32; sealed = o.sealed + 1; bytes = o.bytes + length (sealed_by m o payload) }
 
--- after those of these payloads, of which the last stands first
+-- what a link seals with after the packets of these payloads, of which the last stands first
 abbrev pub raised_by : SuiteData → List (List ℕ) → Outgoing → Outgoing
 raised_by m [] o = o
 raised_by m (p ∷ ps) o = raised m p (raised_by m ps o)
 
--- what is sealed in it is a packet of the payload with the least padding
+-- what is sealed in it is a packet of the payload with the least padding (RFC 4253 section 6)
 abbrev pub IsSealed : SuiteData → Outgoing → List ℕ → Type 0
 IsSealed m o payload =
     IsWritten (m.counts_length o.keys.cipher o.keys.mac) (m.block o.keys.cipher) (m.tag_len o.keys.cipher o.keys.mac) payload
     (written m (m.counts_length o.keys.cipher o.keys.mac) (m.block o.keys.cipher) o.seed o.number payload)
 
--- what its reader answers, as a link tells it
+-- a fault of its reader as a link returns it: out of memory as its own, any other as a packet's
 abbrev pub fault_by : PacketFault → LinkFault
 fault_by packet_fault.Length = fault.Packet packet_fault.Length
 fault_by packet_fault.Padding = fault.Packet packet_fault.Padding
@@ -99,12 +103,13 @@ fault_by packet_fault.Empty = fault.Packet packet_fault.Empty
 fault_by packet_fault.Mac = fault.Packet packet_fault.Mac
 fault_by packet_fault.Memory = fault.Memory
 
+-- what a link returns where its reader returns this
 abbrev pub told_by : Result PacketStep PacketFault → Result PacketStep LinkFault
 told_by (Ok step) = Ok step
 told_by (Err f) = Err (fault_by f)
 
--- What the answer says of the packet at hand, as a reader's does (PacketAnswer): that it is unfinished; that with so many bytes of
--- the piece it is a packet of the payload, whose number is the next; or that it is refused for this cause.
+-- What the answer says of the packet at hand (RFC 4253 section 6), as a reader's does (`PacketAnswer`). It is unfinished; or with so many
+-- bytes of the piece it is a packet of the payload, whose number is the next; or it is refused for this cause.
 abbrev pub OpenAnswer : SuiteData → Incoming → List ℕ → Result PacketStep LinkFault → Type 0
 OpenAnswer m i piece (Ok step) = PacketAnswer m (packet_reader_data i.reader) piece (Ok step)
 OpenAnswer m i piece (Err fault.Payload) = ⊥
@@ -112,7 +117,7 @@ OpenAnswer m i piece (Err fault.UsedUp) = ⊥
 OpenAnswer m i piece (Err (fault.Packet f)) = (f ≢ packet_fault.Memory) × PacketAnswer m (packet_reader_data i.reader) piece (Err f)
 OpenAnswer m i piece (Err fault.Memory) = Unit {0}
 
--- it answers this payload with this number, and so many bytes were used
+-- a link returns this payload with this sequence number, and so many bytes were used
 abbrev pub Opens : List ℕ → ℕ → ℕ → Result PacketStep LinkFault → Type 0
 Opens payload seq used (Ok step) = IsStep payload seq used step
 Opens payload seq used (Err f) = ⊥
@@ -139,7 +144,8 @@ LinkLeaves m i piece (Err (fault.Packet f)) new =
 LinkLeaves m i piece (Err fault.Memory) new =
     (packet_reader_data new.reader ≡ record (packet_reader_data i.reader) { held = []; fault = Some packet_fault.Memory }) × (new.opened ≤ i.opened + 1)
 
--- What is sealed with these is opened with those: the keys and the next number are the same, and no packet is unfinished.
+-- What is sealed with these is opened with those: the keys and the next number are the same, and no packet is unfinished (RFC 4253 sections
+-- 6.4 and 7.2).
 pub record AreLinked (o : Outgoing) (i : Incoming) : Type 0 where
   pub same_keys : (packet_reader_data i.reader).keys ≡ Some o.keys
   pub same_number : (packet_reader_data i.reader).seq ≡ o.number

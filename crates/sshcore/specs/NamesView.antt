@@ -1,8 +1,9 @@
 -- What contracts see of the names that an endpoint lends.
 
 use Rattle.sshneg.specs.Fields.{AlgorithmsData}
-use Rattle.sshcore.specs.declared.chosen_names.ChosenNames.{ChosenNames}
+use Rattle.sshcore.specs.declared.kex_chosen_names.ChosenNames.{ChosenNames}
 
+-- the names of the chosen algorithms, as contracts see those that an endpoint lends (RFC 4253 section 7.1)
 abbrev pub names_of : ChosenNames → AlgorithmsData
 names_of n = record {
   kex = n.kex.now;

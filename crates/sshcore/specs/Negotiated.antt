@@ -9,7 +9,7 @@ use Rattle.sshneg.specs.ChoiceReadings.{choice}
 use Rattle.sshneg.specs.Strictness.{is_right_guess}
 use Rattle.sshpacket.specs.Stream.{Units}
 use Rattle.sshpacket.specs.Suite.{SuiteData}
-use Rattle.sshcore.specs.declared.kexinit.Negotiated.{Negotiated}
+use Rattle.sshcore.specs.declared.kex_init.Negotiated.{Negotiated}
 use Rattle.sshcore.specs.EndpointParts.{ConfigData}
 use Rattle.sshcore.specs.Work.{init_for}
 
@@ -22,5 +22,5 @@ IsNegotiated m client server (Err f) = choice m client server ≡ Err f
 
 -- what is sent at KEXINIT, by whether a guess is right
 abbrev pub sends_init : SuiteData → Side → ConfigData → Bool → List ℕ → Units
-sends_init m Client party right kex = if party.offer.first_kex_packet_follows && right then [] else init_for m party kex ∷ []
-sends_init m Server party right kex = []
+sends_init m Client config right kex = if config.offer.first_kex_packet_follows && right then [] else init_for m config kex ∷ []
+sends_init m Server config right kex = []

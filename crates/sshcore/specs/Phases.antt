@@ -6,8 +6,8 @@ use Rattle.sshmsg.specs.MessageData.{KexInitData}
 use Rattle.sshneg.specs.declared.side.Side.{Side}
 use Rattle.sshneg.specs.declared.side.Side.TheVariants.{Client, Server}
 use Rattle.sshpacket.specs.Stream.{Units}
-use Rattle.sshcore.specs.declared.table.Phase.{Phase}
-use Rattle.sshcore.specs.declared.table.Phase.TheVariants as phase
+use Rattle.sshcore.specs.declared.phase_table.Phase.{Phase}
+use Rattle.sshcore.specs.declared.phase_table.Phase.TheVariants as phase
 use Rattle.sshcore.specs.Before.{stood}
 
 -- The number of the message that leaves a phase: RFC 4253 sections 7.1, 8, 7.3 and 10, RFC 4252 sections 5 and 5.1. A request
@@ -31,26 +31,30 @@ phase_by kexinit exchange newkeys service =
     else if not service then phase.Service
     else phase.Auth
 
+-- the phase after these payloads
 abbrev pub phase_at : Side → KexInitData → Units → Phase
 phase_at role own before =
     phase_by (stood role own SSH_MSG_KEXINIT before) (stood role own (leaving role phase.Exchange) before)
     (stood role own SSH_MSG_NEWKEYS before) (stood role own (leaving role phase.Service) before)
 
--- which phases are past where an endpoint is in this one
+-- the phase is later than `KexInit`
 abbrev pub past_kexinit : Phase → Bool
 past_kexinit phase.KexInit = false
 past_kexinit _ = true
 
+-- the phase is later than `Exchange`
 abbrev pub past_exchange : Phase → Bool
 past_exchange phase.KexInit = false
 past_exchange phase.Exchange = false
 past_exchange _ = true
 
+-- the phase is later than `NewKeys`
 abbrev pub past_newkeys : Phase → Bool
 past_newkeys phase.Service = true
 past_newkeys phase.Auth = true
 past_newkeys _ = false
 
+-- the phase is later than `Service`
 abbrev pub past_service : Phase → Bool
 past_service phase.Auth = true
 past_service _ = false

@@ -6,7 +6,7 @@ use Rattle.sshmsg.specs.declared.fault.MsgFault.{MsgFault}
 use Rattle.sshmsg.specs.declared.numbers.TheConstants.{SSH_MSG_USERAUTH_FAILURE, SSH_MSG_USERAUTH_PK_OK}
 use Rattle.sshmsg.specs.MessageData.{MessageData, UserauthFailure}
 use Rattle.sshmsg.specs.Messages.{message_in}
-use Rattle.sshmsg.specs.Numbers.{kind}
+use Rattle.sshmsg.specs.Numbers.{message_number}
 use Rattle.sshneg.specs.ChoiceReadings.{is_in}
 use Rattle.sshpacket.specs.Stream.{Units}
 use Rattle.sshcore.specs.ConfigParts.{AttemptData, ByKey, ByNothing, ByPassword, CredentialData}
@@ -17,18 +17,19 @@ proving_name ByNothing = codes "none"
 proving_name (ByPassword password) = codes "password"
 proving_name (ByKey algorithm secret ask) = codes "publickey"
 
--- it is asked first whether the key would do (RFC 4252 section 7)
+-- the attempt asks first whether its key would do (RFC 4252 section 7)
 abbrev pub asks : CredentialData → Bool
 asks ByNothing = false
 asks (ByPassword password) = false
 asks (ByKey algorithm secret ask) = ask
 
--- the attempt itself, after its query
+-- the credential of an attempt after its query: it doesn't ask again
 abbrev pub unasked : CredentialData → CredentialData
 unasked ByNothing = ByNothing
 unasked (ByPassword password) = ByPassword password
 unasked (ByKey algorithm secret ask) = ByKey algorithm secret false
 
+-- the attempt after its query: the request itself, with a signature (RFC 4252 section 7)
 abbrev pub after_query : AttemptData → AttemptData
 after_query a = record a { proving = unasked a.proving }
 
@@ -42,6 +43,7 @@ abbrev pub listed_by : Result MessageData MsgFault → List (List ℕ)
 listed_by (Ok (UserauthFailure listed partial)) = listed
 listed_by _ = []
 
+-- the methods that a payload lists, if it is a FAILURE (RFC 4252 section 5.1)
 unfoldable pub listed_in : List ℕ → List (List ℕ)
 listed_in payload = listed_by (message_in Mpint payload)
 
@@ -70,7 +72,7 @@ is_answer n = n == SSH_MSG_USERAUTH_FAILURE || n == SSH_MSG_USERAUTH_PK_OK
 
 -- what is left of attempts after an answer to the first
 abbrev pub left_after_one : List AttemptData → List ℕ → List AttemptData
-left_after_one attempts answer = if kind answer == SSH_MSG_USERAUTH_PK_OK then confirmed attempts else next_after (listed_in answer) attempts
+left_after_one attempts answer = if message_number answer == SSH_MSG_USERAUTH_PK_OK then confirmed attempts else next_after (listed_in answer) attempts
 
 -- what is left of a plan after these answers: from the attempt on that was made last
 unfoldable pub left_after : List AttemptData → Units → List AttemptData

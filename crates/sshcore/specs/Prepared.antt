@@ -2,8 +2,8 @@
 
 use Rattle.std.specs.Prelude.{◌≡◌, ℕ, List, Option, None, Some}
 use Rattle.sshpacket.specs.Suite.{ResponseData, SuiteData, response_data}
-use Rattle.sshcore.specs.declared.prepared.Hashed.{Hashed}
-use Rattle.sshcore.specs.declared.prepared.Prepared.{Prepared}
+use Rattle.sshcore.specs.declared.kex_prepared.Hashed.{Hashed}
+use Rattle.sshcore.specs.declared.kex_prepared.Prepared.{Prepared}
 
 -- the server's share and the shared secret, where the client's share isn't refused
 abbrev pub response_of : Option Hashed → Option ResponseData
@@ -20,7 +20,8 @@ pub record IsAnswer (m : SuiteData) (random : List ℕ) (p : Prepared) : Type 0 
   pub response : response_of p.hashed ≡ m.respond p.kex.items random p.share.items
   pub hash : IsHash m p.kex.items p.hashed
 
--- where something is prepared, it is what the suite answers
+-- where something is prepared of a server's answer to a client's share, it is what the suite answers: its share and the shared secret, and
+-- the hash of a text (RFC 4253 section 8)
 abbrev pub IsPrepared : SuiteData → List ℕ → Option Prepared → Type 0
 IsPrepared m random None = Unit {0}
 IsPrepared m random (Some p) = IsAnswer m random p

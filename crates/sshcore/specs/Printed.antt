@@ -5,7 +5,7 @@ use Rattle.sshneg.specs.Printed.{field_text}
 use Rattle.sshcore.specs.declared.end.Fault.{Fault}
 use Rattle.sshcore.specs.declared.end.Fault.TheVariants as fault
 
--- the failure's code, and after it the number of the message, or the field without a choice
+-- the failure's code, and after it the number of the message, or the field without a choice (profile)
 abbrev pub fault_text : Fault → List ℕ
 fault_text fault.Version = codes "F1"
 fault_text fault.Length = codes "F2"

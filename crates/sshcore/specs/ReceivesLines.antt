@@ -18,8 +18,8 @@ used_by (received.Part used) = used
 used_by (received.Refused used) = used
 used_by (received.Whole used) = used
 
--- Of lines in this form, of which the reader stands open at these bytes: they stay unfinished; or they are refused, and the
--- endpoint has failed; or the version line ends in the piece, and is known.
+-- What a reader of lines in this form, which is open at these bytes, makes of a piece (RFC 4253 section 4.2). The lines stay unfinished; or
+-- they are refused, and the endpoint has failed; or the version line ends in the piece, and is known.
 abbrev pub ReceivesLines : LineForm → ℕ → List ℕ → LineReaderData → StateData → StateData → List ℕ → Received → Type 0
 ReceivesLines form k bytes new old kept piece (received.Part used) =
     StandsOpen k (bytes ++ piece) new.progress × (used ≡ length piece) × (kept ≡ old)

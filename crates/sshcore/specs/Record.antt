@@ -19,8 +19,9 @@ use Rattle.sshcore.specs.EndpointParts.{UserKeyData}
 use Rattle.sshcore.specs.Paused.{PausedData, paused_end}
 use Rattle.sshcore.specs.RecordData.{AuthenticationRecord, ExchangeRecord, OfLines, OfPackets, PacketRecord, ReaderRecord, RecordData}
 use Rattle.sshcore.specs.RecordText.{FitsRecord, record_bytes}
-use Rattle.sshcore.specs.StateData.{reached_data, state_data}
+use Rattle.sshcore.specs.StateData.{completed_methods_data, state_data}
 
+-- what a record has of the key exchange
 abbrev pub exchange_of : State → ExchangeRecord
 exchange_of s = record {
   shares = s.shares;
@@ -32,12 +33,15 @@ exchange_of s = record {
   algorithms = s.algorithms;
 }
 
+-- what a record has of authentication
 abbrev pub authentication_of : State → AuthenticationRecord
-authentication_of s = record { request = s.request; allowance = s.allowance; reached = reached_data s.reached }
+authentication_of s = record { request = s.request; allowance = s.allowance; completed = completed_methods_data s.completed }
 
+-- what a record has of a packet reader: its keys, its sequence number and the bytes that it holds
 abbrev pub packets_of : PacketReaderData → ReaderRecord
 packets_of r = OfPackets r.keys r.seq r.held
 
+-- what a record has of the reader of either kind: of lines, how many other lines are left and the unfinished line
 abbrev pub reader_of : Input → ReaderRecord
 reader_of (input.Lines r) = OfLines (others_left r.state.progress) (unfinished r.state.progress)
 reader_of (input.Packets r) = packets_of (packet_reader_data r)
@@ -47,14 +51,17 @@ abbrev pub wanted : Input → ℕ
 wanted (input.Lines r) = 0
 wanted (input.Packets r) = missing_of r
 
--- and where a packet waits for its answer none is read
+-- how many bytes more an endpoint needs before anything comes of them; none where a packet waits for its answer
 abbrev pub missing_by : Input → Option WaitingData → ℕ
 missing_by i None = wanted i
 missing_by i (Some w) = 0
 
+-- what a record has of a packet that waits for an answer: its sequence number and its payload
 abbrev pub packet_of : WaitingData → PacketRecord
 packet_of w = record { number = w.packet; payload = w.payload }
 
+-- The record of this paused endpoint: all that changes of it. Left out are what the waiting packet asks and what is prepared of the answer,
+-- which are made again.
 abbrev pub record_of : {S : Type 0} → PausedData S → RecordData
 record_of p = record {
   missing = missing_by p.input p.waiting;
@@ -80,9 +87,11 @@ IsMadeSo is (Err fault.Unreadable) = ⊥
 
 -- What a record has of names, of texts, and of lines, of whatever endpoint it is.
 
+-- the cipher and the MAC of these keys are names (RFC 4251 section 6)
 abbrev pub HasKeyNames : KeysData → Type 0
 HasKeyNames k = IsName k.cipher × IsName k.mac
 
+-- the chosen algorithms are names (RFC 4251 section 6)
 pub record HasNames (a : AlgorithmsData) : Type 0 where
   pub kex : IsName a.kex
   pub host_key : IsName a.host_key
@@ -93,17 +102,21 @@ pub record HasNames (a : AlgorithmsData) : Type 0 where
   pub compression_client_to_server : IsName a.compression_client_to_server
   pub compression_server_to_client : IsName a.compression_server_to_client
 
+-- the algorithm of the user's key is UTF-8
 abbrev pub HasUserText : UserKeyData → Type 0
 HasUserText k = IsUtf8 k.algorithm
 
+-- a line that is held is an unfinished one; of keys, cipher and MAC are names
 abbrev pub HasLine : ReaderRecord → Type 0
 HasLine (OfLines left line) = IsUnfinished line
 HasLine (OfPackets keys number held) = IfSome keys HasKeyNames
 
+-- In this record each algorithm is a name, each text is UTF-8, and the line that is held is an unfinished one (RFC 4251 sections 5 and 6).
+-- This is true of the record of every endpoint.
 pub record HasTexts (r : RecordData) : Type 0 where
   pub algorithms : IfSome r.exchange.algorithms HasNames
-  pub user : IsUtf8 r.authentication.reached.user
-  pub service : IsUtf8 r.authentication.reached.service
+  pub user : IsUtf8 r.authentication.completed.user
+  pub service : IsUtf8 r.authentication.completed.service
   pub pending : IfSome r.carried.pending HasKeyNames
   pub user_key : IfSome r.carried.user_key HasUserText
   pub keys : IfSome r.sending.keys HasKeyNames

@@ -5,13 +5,13 @@ use Rattle.sshwire.specs.declared.share_form.ShareForm.{ShareForm}
 use Rattle.sshneg.specs.declared.side.Side.{Side}
 use Rattle.sshneg.specs.Fields.{AlgorithmsData}
 use Rattle.sshpacket.specs.KeysData.{KeysData}
-use Rattle.sshcore.specs.declared.table.Phase.{Phase}
+use Rattle.sshcore.specs.declared.phase_table.Phase.{Phase}
 use Rattle.sshcore.specs.Output.{Sending}
-use Rattle.sshcore.specs.Reached.{ReachedData}
+use Rattle.sshcore.specs.CompletedMethods.{CompletedMethodsData}
 use Rattle.sshcore.specs.StateData.{Carried}
 
--- Of the exchange: the form of shares, whether both sides are strict, whether no payload was received, the peer's version line and its
--- KEXINIT, the session identifier, and the names of a choice, once there is one.
+-- What a record has of the key exchange (RFC 4253 sections 7 and 8): the form of shares, whether both sides are strict, and whether no
+-- payload was received. Then the peer's version line and KEXINIT, the session identifier, and the names of a choice, once there is one.
 pub record ExchangeRecord : Type 0 where
   pub shares : ShareForm
   pub strict : Bool
@@ -22,11 +22,11 @@ pub record ExchangeRecord : Type 0 where
   pub algorithms : Option AlgorithmsData
 
 -- Of authentication: the number of the next request, how many bytes of packets that say nothing may still come, where there is a limit,
--- and what is reached.
+-- and what is completed (RFC 4252 section 5).
 pub record AuthenticationRecord : Type 0 where
   pub request : ℕ
   pub allowance : Option ℕ
-  pub reached : ReachedData
+  pub completed : CompletedMethodsData
 
 -- What it reads its bytes with: of lines, how many others it still accepts, and the unfinished line; of packets, the keys, the number
 -- of the next one, and the bytes of the unfinished one.

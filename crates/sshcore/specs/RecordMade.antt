@@ -17,7 +17,7 @@ use Rattle.sshcore.specs.declared.record_fault.RecordFault.{RecordFault}
 use Rattle.sshcore.specs.declared.record_making.AuthenticationMade.{AuthenticationMade}
 use Rattle.sshcore.specs.declared.record_making.CarriedMade.{CarriedMade}
 use Rattle.sshcore.specs.declared.record_making.ExchangeMade.{ExchangeMade}
-use Rattle.sshcore.specs.declared.table.Phase.{Phase}
+use Rattle.sshcore.specs.declared.phase_table.Phase.{Phase}
 use Rattle.sshcore.specs.Phases.{past_kexinit}
 use Rattle.sshcore.specs.AskingData.{WaitingData}
 use Rattle.sshcore.specs.Directions.{form_of}
@@ -26,7 +26,7 @@ use Rattle.sshcore.specs.EndpointParts.{ConfigData, DecisionsData, Setup, setup_
 use Rattle.sshcore.specs.Paused.{FitsPaused, PausedAfter, PausedData, asked_paused, kept_by}
 use Rattle.sshcore.specs.Record.{HasKeyNames, HasNames, HasUserText, IsMadeSo, IsRecordOf}
 use Rattle.sshcore.specs.RecordData.{AuthenticationRecord, ExchangeRecord, OfLines, OfPackets, PacketRecord, ReaderRecord, RecordData}
-use Rattle.sshcore.specs.StateData.{Carried, StateData, algorithms_or, reached_data, user_key_data}
+use Rattle.sshcore.specs.StateData.{Carried, StateData, algorithms_or, completed_methods_data, user_key_data}
 
 -- what an endpoint in this phase may know of the exchange
 pub record FitsPhase (p : Phase) (x : ExchangeRecord) : Type 0 where
@@ -46,19 +46,21 @@ pub record IsExchange (x : ExchangeRecord) (m : ExchangeMade) : Type 0 where
 -- what an endpoint may know of authentication
 pub record FitsTries (a : AuthenticationRecord) : Type 0 where
   pub request : a.request ≤ TRIES_LIMIT
-  pub user : IsUtf8 a.reached.user
-  pub service : IsUtf8 a.reached.service
+  pub user : IsUtf8 a.completed.user
+  pub service : IsUtf8 a.completed.service
 
+-- what is made of a record knows the same of authentication
 pub record IsAuthentication (a : AuthenticationRecord) (m : AuthenticationMade) : Type 0 where
   pub request : m.request ≡ a.request
   pub allowance : m.allowance ≡ a.allowance
-  pub reached : reached_data m.reached ≡ a.reached
+  pub completed : completed_methods_data m.completed ≡ a.completed
 
 -- what is carried along has names and texts
 pub record HasCarriedTexts (c : Carried) : Type 0 where
   pub pending : IfSome c.pending HasKeyNames
   pub user_key : IfSome c.user_key HasUserText
 
+-- what is made of a record carries the same along
 pub record IsCarriedSo (c : Carried) (m : CarriedMade) : Type 0 where
   pub pending : m.pending ≡ c.pending
   pub own_version : m.own_version.items ≡ c.own_version
@@ -86,7 +88,7 @@ state_in r = record {
     session = r.exchange.session;
     request = r.authentication.request;
     left = [];
-    reached = r.authentication.reached;
+    completed = r.authentication.completed;
     strict = r.exchange.strict;
     first = r.exchange.first;
     allowance = r.authentication.allowance;
@@ -100,11 +102,12 @@ abbrev pub IsReaderOf : SuiteData → ReaderRecord → Type 0
 IsReaderOf m (OfLines left line) = Unit {0}
 IsReaderOf m (OfPackets keys number held) = parse_packet (protection m keys number) held ≡ unfinished
 
--- how many bytes more it wants, and 0 where a packet waits
+-- how many bytes more the reader of a record needs before more is judged; of lines none
 abbrev pub wants : SuiteData → ReaderRecord → ℕ
 wants m (OfLines left line) = 0
 wants m (OfPackets keys number held) = needed (protection m keys number) held - length held
 
+-- how many bytes more a record's reader needs; 0 where a packet waits
 abbrev pub missing_in : SuiteData → ReaderRecord → Option PacketRecord → ℕ
 missing_in m reader None = wants m reader
 missing_in m reader (Some packet) = 0
@@ -123,31 +126,32 @@ IsSameWaiting None (Some w) = ⊥
 IsSameWaiting (Some v) None = ⊥
 IsSameWaiting (Some v) (Some w) = (w.packet ≡ v.packet) × (w.payload ≡ v.payload) × (w.question ≡ v.question)
 
--- a reader is as another, of lines by this form
+-- Two readers are alike. Both read lines and have come as far, the second by this form; or both read packets, with the same keys, sequence
+-- number, bytes held and fault.
 abbrev pub IsSameInput : LineForm → Input → Input → Type 0
 IsSameInput form (input.Lines r) (input.Lines q) = (q.state.progress ≡ r.state.progress) × (q.form ≡ form)
 IsSameInput form (input.Lines r) (input.Packets q) = ⊥
 IsSameInput form (input.Packets r) (input.Lines q) = ⊥
 IsSameInput form (input.Packets r) (input.Packets q) = packet_reader_data q ≡ packet_reader_data r
 
--- a reader that has neither refused nor come to its end
+-- this reader reads on: one of lines has neither found the version line nor refused
 abbrev pub IsReading : Input → Type 0
 IsReading (input.Lines r) = (left : ℕ) × (line : List ℕ) × (r.state.progress ≡ Waits left line)
 IsReading (input.Packets r) = Unit {0}
 
--- a paused endpoint keeps, reads and waits as another
-pub record IsSamePaused {S : Type 0} (role : Side) (party : ConfigData) (p q : PausedData S) : Type 0 where
-  pub kept : kept_by party q ≡ kept_by party p
-  pub input : IsSameInput (form_of party.reading role) p.input q.input
+-- two paused endpoints with this config are alike: they keep the same, their readers are alike, and the same packet waits or none
+pub record IsSamePaused {S : Type 0} (role : Side) (config : ConfigData) (p q : PausedData S) : Type 0 where
+  pub kept : kept_by config q ≡ kept_by config p
+  pub input : IsSameInput (form_of config.reading role) p.input q.input
   pub waiting : IsSameWaiting p.waiting q.waiting
 
--- one that may be resumed so, reads on, and whose record this is
-pub record IsRecorded {S : Type 0} (meaning : S → SuiteData) (role : Side) (party : ConfigData) (suite : S) (bytes : List ℕ) (p : PausedData S) : Type 0 where
-  pub fits : FitsPaused meaning role party suite p
+-- these bytes are the record of this paused endpoint, which reads on and may be resumed in this role, with this config and this suite
+pub record IsRecorded {S : Type 0} (meaning : S → SuiteData) (role : Side) (config : ConfigData) (suite : S) (bytes : List ℕ) (p : PausedData S) : Type 0 where
+  pub fits : FitsPaused meaning role config suite p
   pub reading : IsReading p.input
   pub is_record : IsRecordOf bytes p
 
--- it has received and sent what another has, and asks the same
+-- the second paused endpoint has received and sent these bytes in this setup, and asks what the first one asks
 pub record IsAsFar {S : Type 0} (setup : Setup) (h s : List ℕ) (p q : PausedData S) : Type 0 where
   pub after : PausedAfter setup q h s
   pub asks : asked_paused q ≡ asked_paused p
@@ -155,6 +159,6 @@ pub record IsAsFar {S : Type 0} (setup : Setup) (h s : List ℕ) (p q : PausedDa
 -- Of the record of an endpoint, whatever it has received and sent with this config and this suite, one is made that is as far; unless
 -- memory runs out.
 abbrev pub GoesOnFrom : {S : Type 0} → (S → SuiteData) → Side → ConfigData → S → List ℕ → Result (PausedData S) RecordFault → Type 0
-GoesOnFrom {S} meaning role party suite bytes result =
-    (p : PausedData S) (d : DecisionsData) (h s : List ℕ) → IsRecordOf bytes p → FitsPaused meaning role party suite p
-    → PausedAfter (setup_with (meaning suite) d role party) p h s → IsMadeSo (IsAsFar (setup_with (meaning suite) d role party) h s p) result
+GoesOnFrom {S} meaning role config suite bytes result =
+    (p : PausedData S) (d : DecisionsData) (h s : List ℕ) → IsRecordOf bytes p → FitsPaused meaning role config suite p
+    → PausedAfter (setup_with (meaning suite) d role config) p h s → IsMadeSo (IsAsFar (setup_with (meaning suite) d role config) h s p) result

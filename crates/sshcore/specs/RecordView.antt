@@ -19,9 +19,11 @@ use Rattle.sshcore.specs.Output.{Sending}
 use Rattle.sshcore.specs.RecordData.{AuthenticationRecord, ExchangeRecord, OfLines, OfPackets, PacketRecord, ReaderRecord, RecordData}
 use Rattle.sshcore.specs.StateData.{Carried}
 
+-- the twin of keys that are lent
 abbrev pub lent_keys : LentKeys → KeysData
 lent_keys k = record { cipher = k.cipher.now; mac = k.mac.now; iv = k.iv.now; enc = k.enc.now; mac_key = k.mac_key.now }
 
+-- the twin of names that are lent
 abbrev pub lent_names : LentNames → AlgorithmsData
 lent_names n = record {
   kex = n.kex.now;
@@ -34,9 +36,11 @@ lent_names n = record {
   compression_server_to_client = n.compression_server_to_client.now;
 }
 
+-- the twin of a user's key that is lent
 abbrev pub lent_user_key : LentUserKey → UserKeyData
 lent_user_key k = record { algorithm = k.algorithm.now; blob = k.blob.now }
 
+-- the twin of what is written of the key exchange
 abbrev pub exchange_record : ExchangeParts → ExchangeRecord
 exchange_record x = record {
   shares = x.shares;
@@ -48,13 +52,15 @@ exchange_record x = record {
   algorithms = option_map lent_names x.algorithms;
 }
 
+-- the twin of what is written of authentication
 abbrev pub authentication_record : AuthenticationParts → AuthenticationRecord
 authentication_record a = record {
   request = a.request;
   allowance = a.allowance;
-  reached = record { user = a.user.now; service = a.service.now; password = a.password; publickey = a.publickey };
+  completed = record { user = a.user.now; service = a.service.now; password = a.password; publickey = a.publickey };
 }
 
+-- the twin of what is written of what is carried along
 abbrev pub carried_record : CarriedParts → Carried
 carried_record c = record {
   pending = option_map lent_keys c.pending;
@@ -63,16 +69,20 @@ carried_record c = record {
   user_key = option_map lent_user_key c.user_key;
 }
 
+-- the twin of what is written of sending
 abbrev pub sending_record : SendingParts → Sending
 sending_record s = record { keys = option_map lent_keys s.keys; number = s.number }
 
+-- the twin of what is written of the reader
 abbrev pub reader_record : ReaderParts → ReaderRecord
 reader_record (reader.Lines others line) = OfLines others line.now
 reader_record (reader.Packets keys number held) = OfPackets (option_map lent_keys keys) number held.now
 
+-- the twin of what is written of a packet that waits
 abbrev pub packet_record : WaitingParts → PacketRecord
 packet_record w = record { number = w.number; payload = w.payload.now }
 
+-- the twin of all that is written of an endpoint
 abbrev pub record_data : RecordParts → RecordData
 record_data r = record {
   missing = r.missing;

@@ -2,14 +2,14 @@
 
 use Rattle.std.specs.Prelude.{◌≡◌, length}
 use Rattle.sshwire.specs.Types.{IsBytes}
-use Rattle.sshcore.specs.declared.draws.Draws.{Draws}
+use Rattle.sshcore.specs.declared.config_draws.Draws.{Draws}
 use Rattle.sshcore.specs.ConfigParts.{ClientData, ServerData, SideData}
 
 -- the draws that a side holds itself
 abbrev pub draws_of : SideData → Draws
 draws_of side = record { cookie = side.cookie; exchange_random = side.random; padding_seed = side.seed }
 
--- a side with these draws: nothing but its cookie, its exchange random and its padding seed is another
+-- a side with these draws: nothing but its cookie, its exchange random and its padding seed is another (RFC 4253 section 7.1)
 abbrev pub redrawn_side : Draws → SideData → SideData
 redrawn_side draws side = record side { cookie = draws.cookie; random = draws.exchange_random; seed = draws.padding_seed }
 

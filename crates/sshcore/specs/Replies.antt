@@ -5,7 +5,7 @@ use Rattle.std.specs.Prelude.{◌≡◌, ◌≢◌, ℕ, if◌then◌else◌, Li
 use Rattle.sshmsg.specs.declared.fault.MsgFault.{MsgFault}
 use Rattle.sshmsg.specs.MessageData.{MessageData, Unimplemented}
 use Rattle.sshmsg.specs.Messages.{message_in}
-use Rattle.sshmsg.specs.Numbers.{kind}
+use Rattle.sshmsg.specs.Numbers.{message_number}
 use Rattle.sshmsg.specs.Written.{written_message}
 use Rattle.sshneg.specs.declared.side.Side.{Side}
 use Rattle.sshpacket.specs.declared.fault.PacketFault.TheVariants as packet
@@ -14,54 +14,56 @@ use Rattle.sshpacket.specs.Places.{EachPlace, flat_places}
 use Rattle.sshpacket.specs.Stream.{Units}
 use Rattle.sshcore.specs.declared.end.Fault.{Fault}
 use Rattle.sshcore.specs.declared.end.Fault.TheVariants as fault
-use Rattle.sshcore.specs.declared.table.Line.{Line}
-use Rattle.sshcore.specs.declared.table.Line.TheVariants as line
+use Rattle.sshcore.specs.declared.phase_table.Disposition.{Disposition}
+use Rattle.sshcore.specs.declared.phase_table.Disposition.TheVariants as disposition
 use Rattle.sshcore.specs.IgnoredLimit.{overspends}
 use Rattle.sshcore.specs.Before.{expects_guess, strict_at}
 use Rattle.sshcore.specs.Counting.{number_in}
 use Rattle.sshcore.specs.EndData.{EndData, Open, Reply, fails, goes}
-use Rattle.sshcore.specs.Known.{Known, known_at, waits_at}
+use Rattle.sshcore.specs.KnownBefore.{Known, known_at, waits_at}
 use Rattle.sshcore.specs.EndpointParts.{ConfigData, Setup}
 use Rattle.sshcore.specs.Phases.{phase_at}
-use Rattle.sshcore.specs.Table.{line_by}
+use Rattle.sshcore.specs.Table.{disposition_by}
 use Rattle.sshcore.specs.Work.{making, work}
 
--- a message that is read is worked on, and one that can't be read is malformed
+-- a message that is read is worked on, and one that can't be read is malformed (profile)
 abbrev pub read_reply : Setup → Known → ℕ → Result MessageData MsgFault → Reply
 read_reply setup known n (Ok content) = work setup known content
 read_reply setup known n (Err e) = fails (fault.Malformed n)
 
--- a payload that says nothing is taken only within the allowance, be it well-formed or not
+-- a payload that says nothing is taken only within the allowance, be it well-formed or not (profile)
 abbrev pub allowed : Known → List ℕ → Reply → Reply
 allowed known payload reply = if overspends known.allowance payload then fails fault.TooMuchIgnored else reply
 
--- what a line of the table says of a packet with this number; UNIMPLEMENTED tells it (RFC 4253 section 11.4)
-unfoldable pub line_reply : Setup → Known → ℕ → Line → List ℕ → Reply
-line_reply setup known packet line.Reads payload = allowed known payload (read_reply setup known (kind payload) (message_in known.shares payload))
-line_reply setup known packet line.Drops payload = goes []
-line_reply setup known packet line.Deviates payload = fails (fault.Strict (kind payload))
-line_reply setup known packet line.Unknown payload = allowed known payload (goes (written_message (Unimplemented packet) ∷ []))
-line_reply setup known packet line.Unexpected payload = fails (fault.Unexpected (kind payload))
+-- what a line of the table says of a packet with this number; UNIMPLEMENTED tells it (RFC 4253 section 11.4) (F6 is profile)
+unfoldable pub disposition_reply : Setup → Known → ℕ → Disposition → List ℕ → Reply
+disposition_reply setup known packet disposition.Reads payload = allowed known payload (read_reply setup known (message_number payload) (message_in known.shares payload))
+disposition_reply setup known packet disposition.Drops payload = goes []
+disposition_reply setup known packet disposition.Deviates payload = fails (fault.Strict (message_number payload))
+disposition_reply setup known packet disposition.Unknown payload = allowed known payload (goes (written_message (Unimplemented packet) ∷ []))
+disposition_reply setup known packet disposition.Unexpected payload = fails (fault.Unexpected (message_number payload))
 
 -- the line that decides at a place
-abbrev pub line_at : Side → ConfigData → Units → List ℕ → Line
-line_at role party before payload =
-    line_by role (phase_at role party.offer before) (strict_at role party before) (expects_guess role party.offer before) (waits_at role party before)
-    (kind payload)
+abbrev pub disposition_at : Side → ConfigData → Units → List ℕ → Disposition
+disposition_at role config before payload =
+    disposition_by role (phase_at role config.offer before) (strict_at role config before) (expects_guess role config.offer before) (waits_at role config before)
+    (message_number payload)
 
 -- what a payload brings after those before it
 abbrev pub reply_at : Setup → List ℕ → Units → List ℕ → Reply
 reply_at setup version before payload =
-    line_reply setup (known_at setup version before) (number_in setup.role setup.config before) (line_at setup.role setup.config before payload) payload
+    disposition_reply setup (known_at setup version before) (number_in setup.role setup.config before) (disposition_at setup.role setup.config before payload) payload
 
--- the same of a unit: the version line is answered by nothing
+-- what an endpoint does at a unit, after these; the version line is answered by nothing
 abbrev pub unit_reply : Setup → Units → List ℕ → Reply
 unit_reply setup [] version = goes []
 unit_reply setup (version ∷ before) payload = reply_at setup version before payload
 
+-- what an endpoint sends in answer to this unit, after these
 abbrev pub answers_at : Setup → Units → List ℕ → Units
 answers_at setup before unit = (unit_reply setup before unit).answers
 
+-- how the endpoint is after this unit
 abbrev pub end_at : Setup → Units → List ℕ → EndData
 end_at setup before unit = (unit_reply setup before unit).end
 
@@ -74,6 +76,7 @@ fault_of (OfPacket packet.Empty) = fault.Padding
 fault_of (OfPacket packet.Mac) = fault.Mac
 fault_of (OfPacket packet.Memory) = fault.Memory
 
+-- what an endpoint does when the bytes are refused: it fails by the fault of the refusal; where nothing is refused it sends nothing
 abbrev pub refusal_reply : Option Refusal → Reply
 refusal_reply None = goes []
 refusal_reply (Some r) = fails (fault_of r)

@@ -3,7 +3,7 @@
 use Rattle.std.specs.Prelude.{◌≡◌}
 use Rattle.sshcore.specs.declared.state.State.{State}
 
--- all of it is as it was before
+-- phase, strictness and algorithms are as before
 pub record ShowsTheSame (old new : State) : Type 0 where
   pub same_phase : new.phase ≡ old.phase
   pub same_strict : new.strict ≡ old.strict

@@ -10,7 +10,8 @@ abbrev pub fitting : Option (List ℕ) → Option (List ℕ)
 fitting None = None
 fitting (Some signature) = if nat_le (length signature) SIGNATURE_LIMIT then Some signature else None
 
--- the signature of an input by a private key, which the suite makes where it holds the key, and whoever decides where it doesn't
+-- the signature of an input by a private key, which the suite makes where it holds the key, and whoever decides where it doesn't (RFC 4252
+-- section 7, RFC 4253 section 8; who signs is profile)
 abbrev pub signature_by : SuiteData → DecisionsData → ℕ → List ℕ → List ℕ → List ℕ → Option (List ℕ)
 signature_by m d number algorithm secret input =
     if m.holds algorithm secret then Some (m.sign algorithm secret input) else fitting (d.signature number algorithm (m.blob algorithm secret) input)

@@ -4,32 +4,33 @@ use Rattle.std.specs.Prelude.{ℕ, Bool, true, false, List, [], map, string_byte
 use Rattle.sshneg.specs.Fields.{AlgorithmsData}
 use Rattle.sshpacket.specs.KeysData.{KeysData}
 use Rattle.sshcore.specs.declared.session.UserKey.{UserKey}
-use Rattle.sshcore.specs.declared.state.Reached as reached_methods
+use Rattle.sshcore.specs.declared.state.CompletedMethods as completed_methods
 use Rattle.sshcore.specs.declared.state.State.{State}
-use Rattle.sshcore.specs.declared.table.Phase.{Phase}
-use Rattle.sshcore.specs.declared.table.Phase.TheVariants as phase
+use Rattle.sshcore.specs.declared.phase_table.Phase.{Phase}
+use Rattle.sshcore.specs.declared.phase_table.Phase.TheVariants as phase
 use Rattle.sshcore.specs.ConfigParts.{AttemptData}
 use Rattle.sshcore.specs.ConfigView.{attempt_data}
 use Rattle.sshcore.specs.EndData.{EndData, Open, end_data}
 use Rattle.sshcore.specs.Exchange.{no_algorithms}
-use Rattle.sshcore.specs.Known.{Known}
+use Rattle.sshcore.specs.KnownBefore.{Known}
 use Rattle.sshcore.specs.Output.{Sending}
 use Rattle.sshcore.specs.EndpointParts.{ConfigData, UserKeyData}
 use Rattle.sshcore.specs.Plan.{confirmed}
-use Rattle.sshcore.specs.Reached.{ReachedData}
+use Rattle.sshcore.specs.CompletedMethods.{CompletedMethodsData}
 use Rattle.sshcore.specs.Standing.{nothing_known}
 
--- What is carried along, on which no reply hangs: the keys of what is received, from the exchange up to NEWKEYS; from the exchange
--- on the own version line and the server's public host key; and the public key of the last signed request that was successful.
+-- What is carried along, on which no reply depends (RFC 4253 sections 7.3 and 8, RFC 4252 section 7). The keys of what is received, from
+-- the exchange up to NEWKEYS. From the exchange on, the own version line and the server's public host key. The public key of the last
+-- signed request that was successful.
 pub record Carried : Type 0 where
   pub pending : Option KeysData
   pub own_version : List ℕ
   pub host_key : List ℕ
   pub user_key : Option UserKeyData
 
--- after the exchange, by which these are the keys of what is received and this is the host key
+-- after the exchange, by which these are the keys of what is received and this is the host key (RFC 4253 section 8)
 abbrev pub with_exchange : ConfigData → KeysData → List ℕ → Carried → Carried
-with_exchange party keys host_key c = record c { pending = Some keys; own_version = party.version; host_key = host_key }
+with_exchange config keys host_key c = record c { pending = Some keys; own_version = config.version; host_key = host_key }
 
 -- How it stands; its phase; whether the packet of a wrong guess is due; what it knows; what it carries along; and what it sends
 -- packets with.
@@ -56,10 +57,11 @@ abbrev pub user_key_data : Option UserKey → Option UserKeyData
 user_key_data None = None
 user_key_data (Some k) = Some (record { algorithm = string_bytes k.algorithm; blob = k.blob.items })
 
--- what is reached, without where its texts lie in memory
-abbrev pub reached_data : reached_methods.Reached → ReachedData
-reached_data r = record { user = string_bytes r.user; service = string_bytes r.service; password = r.password; publickey = r.publickey }
+-- what is completed, without where its texts lie in memory
+abbrev pub completed_methods_data : completed_methods.CompletedMethods → CompletedMethodsData
+completed_methods_data r = record { user = string_bytes r.user; service = string_bytes r.service; password = r.password; publickey = r.publickey }
 
+-- the twin of the state that an endpoint keeps
 abbrev pub state_data : State → StateData
 state_data s = record {
   end = end_data s.end;
@@ -73,7 +75,7 @@ state_data s = record {
     session = s.session.items;
     request = s.request;
     left = left_of s.confirmed (map attempt_data s.left.now);
-    reached = reached_data s.reached;
+    completed = completed_methods_data s.completed;
     strict = s.strict;
     first = s.first;
     allowance = s.allowance;
@@ -82,13 +84,13 @@ state_data s = record {
   sending = record { keys = s.keys_out; number = s.number_out };
 }
 
--- before any byte
+-- what an endpoint keeps before any byte is received
 abbrev pub begun : ConfigData → StateData
-begun party = record {
+begun config = record {
   end = Open;
   phase = phase.KexInit;
   guess = false;
-  known = nothing_known party [];
+  known = nothing_known config [];
   carried = record { pending = None; own_version = []; host_key = []; user_key = None };
   sending = record { keys = None; number = 0 };
 }
@@ -99,6 +101,7 @@ abbrev pub keys_due : Phase → Option KeysData → Option KeysData
 keys_due phase.Service pending = pending
 keys_due _ pending = None
 
+-- the keys of what is received that aren't in use yet, after they are due
 abbrev pub keys_left : Phase → Option KeysData → Option KeysData
 keys_left phase.Service pending = None
 keys_left _ pending = pending

@@ -21,7 +21,7 @@ abbrev pub share_number : Side → ℕ
 share_number Client = 31
 share_number Server = 30
 
--- a guess was announced, and it isn't right
+-- a guess was announced, and it isn't right (RFC 4253 section 7)
 pub record IsWrongGuess (role : Side) (own peer : KexInitData) : Type 0 where
   pub announced : peer.first_kex_packet_follows ≡ true
   pub not_right : IsRightGuess (client_of role own peer) (server_of role own peer) → ⊥
@@ -38,7 +38,7 @@ pub data IsGuessPart (role : Side) (own peer : KexInitData) (payloads : Units) :
   Guessed : IsWrongGuess role own peer → (payload : List ℕ) → IsGuess payload → payloads ≡ payload ∷ [] → IsGuessPart role own peer payloads
   NotGuessed : (IsWrongGuess role own peer → ⊥) → payloads ≡ [] → IsGuessPart role own peer payloads
 
--- the payload is a KEXINIT with this offer
+-- the payload is a KEXINIT with this offer (RFC 4253 section 7.1)
 pub record IsOffered (peer : KexInitData) (payload : List ℕ) : Type 0 where
   pub has : HasNumber 20 payload
   pub offers : offer_in payload ≡ Some peer

@@ -4,10 +4,10 @@ use Rattle.std.specs.Prelude.{◌≡◌, ℕ, ◌+◌, Bool, true, not, List, []
 use Rattle.std.specs.List.{AllByRecursion}
 use Rattle.sshpacket.specs.Inventory.{InventoryData}
 use Rattle.sshpacket.specs.Suite.{SuiteData}
-use Rattle.sshcore.specs.declared.suite_fault.AlgorithmList.{AlgorithmList}
-use Rattle.sshcore.specs.declared.suite_fault.AlgorithmList.TheVariants as algorithms
-use Rattle.sshcore.specs.declared.suite_fault.SuiteFault.{SuiteFault}
-use Rattle.sshcore.specs.declared.suite_fault.SuiteFault.TheVariants as fault
+use Rattle.sshcore.specs.declared.config_suite_fault.AlgorithmList.{AlgorithmList}
+use Rattle.sshcore.specs.declared.config_suite_fault.AlgorithmList.TheVariants as algorithms
+use Rattle.sshcore.specs.declared.config_suite_fault.SuiteFault.{SuiteFault}
+use Rattle.sshcore.specs.declared.config_suite_fault.SuiteFault.TheVariants as fault
 use Rattle.sshcore.specs.ConfigParts.{AttemptData, ByKey, ByNothing, ByPassword, ClientData, CredentialData, HostKeyData, ServerData, SideData, key_algorithms}
 
 -- what a suite is asked for: the algorithm of this name, which stands in this list; or, to hold this private key of an algorithm,
@@ -30,7 +30,7 @@ abbrev pub meets : SuiteData → InventoryData → DemandData → Bool
 meets m i (Named list name) = has_algorithm m i list name
 meets m i (Held position algorithm secret) = m.holds algorithm secret
 
--- each name of a list
+-- each name of a list, as a demand
 abbrev pub named_in : AlgorithmList → List (List ℕ) → List DemandData
 named_in list names = map (Named list) names
 
@@ -59,21 +59,25 @@ abbrev pub plan_asked : ℕ → List AttemptData → List DemandData
 plan_asked position [] = []
 plan_asked position (a ∷ plan) = key_asked position a.proving ++ plan_asked (position + 1) plan
 
--- the names that a config asks of a suite
+-- the names that a client's config asks of a suite, in the order in which they are judged: methods, host key algorithms, ciphers and MACs
+-- (profile)
 abbrev pub client_names : ClientData → List DemandData
 client_names client = names_asked client.side client.host_key_algorithms
 
+-- the names that a server's config asks of a suite: its lists, and the algorithms of its host keys (profile)
 abbrev pub server_names : ServerData → List DemandData
 server_names server = names_asked server.side (key_algorithms server.host_keys)
 
--- all that a config asks of a suite, in the order in which it is judged: names, then private keys
+-- all that a client's config asks of a suite, in the order in which it is judged: names, then the private keys of its plan (profile)
 abbrev pub client_asked : ClientData → List DemandData
 client_asked client = client_names client ++ plan_asked 0 client.plan
 
+-- all that a server's config asks of a suite, in the order in which it is judged: names, then the private keys of its host keys (profile)
 abbrev pub server_asked : ServerData → List DemandData
 server_asked server = server_names server ++ host_keys_asked 0 server.host_keys
 
--- a suite fits a config: it has all that the config asks for
+-- The suite fits a config: it has each method, cipher and MAC that the config asks for, signs by each host key algorithm, and holds each
+-- private key (profile).
 abbrev pub IsFit : SuiteData → InventoryData → List DemandData → Type 0
 IsFit m i asked = AllByRecursion (λ demand. meets m i demand ≡ true) asked
 
@@ -86,6 +90,7 @@ pub data SuiteFaultData : Type 0 where
   Unknown : AlgorithmList → List ℕ → SuiteFaultData
   NotHeld : ℕ → List ℕ → SuiteFaultData
 
+-- the twin of a `SuiteFault`: a list and a name, or a position and an algorithm; never a private key
 abbrev pub suite_fault_data : SuiteFault → SuiteFaultData
 suite_fault_data (fault.Algorithm list name) = Unknown list name.now
 suite_fault_data (fault.PrivateKey position algorithm) = NotHeld position algorithm.now
@@ -95,6 +100,6 @@ abbrev pub told_of : DemandData → SuiteFaultData
 told_of (Named list name) = Unknown list name
 told_of (Held position algorithm secret) = NotHeld position algorithm
 
--- what a suite is refused for: the first demand that it doesn't meet, if there is one
+-- what a suite is refused for: the first demand that it doesn't meet, if there is one (profile)
 abbrev pub suite_refusal : SuiteData → InventoryData → List DemandData → Option SuiteFaultData
 suite_refusal m i asked = option_map told_of (first_unmet m i asked)

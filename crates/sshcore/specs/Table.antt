@@ -5,12 +5,13 @@ use Rattle.std.specs.Prelude.{ℕ, ◌==◌, ◌&&◌, ◌||◌, Bool, true, fal
 use Rattle.sshmsg.specs.declared.numbers.TheConstants.{SSH_MSG_DISCONNECT, SSH_MSG_EXT_INFO, SSH_MSG_USERAUTH_BANNER, SSH_MSG_USERAUTH_FAILURE, SSH_MSG_USERAUTH_PK_OK, SSH_MSG_USERAUTH_REQUEST}
 use Rattle.sshneg.specs.declared.side.Side.{Side}
 use Rattle.sshneg.specs.declared.side.Side.TheVariants.{Client, Server}
-use Rattle.sshcore.specs.declared.table.Line.{Line}
-use Rattle.sshcore.specs.declared.table.Line.TheVariants as line
-use Rattle.sshcore.specs.declared.table.Phase.{Phase}
-use Rattle.sshcore.specs.declared.table.Phase.TheVariants as phase
+use Rattle.sshcore.specs.declared.phase_table.Disposition.{Disposition}
+use Rattle.sshcore.specs.declared.phase_table.Disposition.TheVariants as disposition
+use Rattle.sshcore.specs.declared.phase_table.Phase.{Phase}
+use Rattle.sshcore.specs.declared.phase_table.Phase.TheVariants as phase
 use Rattle.sshcore.specs.Phases.{leaving}
 
+-- the number is from low to high, both included
 abbrev pub within : ℕ → ℕ → ℕ → Bool
 within low high n = nat_le low n && nat_le n high
 
@@ -35,7 +36,7 @@ is_of_auth role _ waits n = false
 abbrev pub is_ignored : ℕ → Bool
 is_ignored n = within 2 4 n
 
--- EXT_INFO has a place after NEWKEYS (RFC 8308 section 2.4)
+-- EXT_INFO has a place after NEWKEYS (RFC 8308 section 2.4, taken more widely: profile)
 abbrev pub takes_extensions : Phase → Bool
 takes_extensions phase.Service = true
 takes_extensions phase.Auth = true
@@ -46,22 +47,23 @@ abbrev pub is_unknown : ℕ → Bool
 is_unknown n = within 8 19 n || (within 22 29 n || (within 32 49 n || (within 54 59 n || within 61 79 n)))
 
 -- Numbers of messages that say nothing to an endpoint: what may come at any time, EXT_INFO, and what has no meaning here. Where one
--- is taken the endpoint goes on as it was.
+-- is taken the endpoint goes on as it was (profile).
 abbrev pub is_ignorable : ℕ → Bool
 is_ignorable n = is_ignored n || (n == SSH_MSG_EXT_INFO || is_unknown n)
 
--- The table; `guess` says that the packet of a wrong guess is due, `waits` that a query waits for its answer. Its lines: a DISCONNECT; that packet, where strictness
--- doesn't rule; that packet, with a number of the method's own; what strictness doesn't require; what leaves the phase; what
--- is of authentication; what is ignored; EXT_INFO; what has no meaning; and what has no use.
-unfoldable pub line_by : Side → Phase → Bool → Bool → Bool → ℕ → Line
-line_by role p strict guess waits n =
-    if n == SSH_MSG_DISCONNECT then line.Reads
-    else if guess && not (is_ruled p strict) then line.Drops
-    else if guess && is_of_method n then line.Drops
-    else if is_ruled p strict && (guess || not (n == leaving role p)) then line.Deviates
-    else if n == leaving role p then line.Reads
-    else if is_of_auth role p waits n then line.Reads
-    else if is_ignored n then line.Reads
-    else if n == SSH_MSG_EXT_INFO && takes_extensions p then line.Reads
-    else if is_unknown n then line.Unknown
-    else line.Unexpected
+-- The phase table (RFC 4253 sections 7 and 11, OpenSSH PROTOCOL section 1.10; the order of the lines is profile). `guess` says that the
+-- packet of a wrong guess is due, `waits` that a query waits for its answer. The lines, in order: a DISCONNECT; the packet of a wrong
+-- guess, where strictness doesn't rule; that packet, with a number of the method's own; what strictness doesn't require; what leaves the
+-- phase. Then: what is of authentication; what is ignored; EXT_INFO; what has no meaning; what has no use.
+unfoldable pub disposition_by : Side → Phase → Bool → Bool → Bool → ℕ → Disposition
+disposition_by role p strict guess waits n =
+    if n == SSH_MSG_DISCONNECT then disposition.Reads
+    else if guess && not (is_ruled p strict) then disposition.Drops
+    else if guess && is_of_method n then disposition.Drops
+    else if is_ruled p strict && (guess || not (n == leaving role p)) then disposition.Deviates
+    else if n == leaving role p then disposition.Reads
+    else if is_of_auth role p waits n then disposition.Reads
+    else if is_ignored n then disposition.Reads
+    else if n == SSH_MSG_EXT_INFO && takes_extensions p then disposition.Reads
+    else if is_unknown n then disposition.Unknown
+    else disposition.Unexpected

@@ -48,56 +48,59 @@ pub record AskingStands (setup : Setup) (kept : StateData) (j : Input) (w : Opti
   pub stands : EndpointStands setup kept reader earlier s
   pub unread : IsUnread setup.suite reader earlier w j h
 
--- its reader holds nothing, right after a packet
+-- a packet reader that holds nothing, right after a packet
 abbrev pub IsIdle : Input → Type 0
 IsIdle (input.Lines reader) = ⊥
 IsIdle (input.Packets reader) = (packet_reader_data reader).held ≡ []
 
 -- where a packet waits, an endpoint whose session goes on is open, the packet asks, and what is prepared is what the suite answers
-pub record IsAsked (m : SuiteData) (role : Side) (party : ConfigData) (kept : StateData) (j : Input) (w : WaitingData) : Type 0 where
+pub record IsAsked (m : SuiteData) (role : Side) (config : ConfigData) (kept : StateData) (j : Input) (w : WaitingData) : Type 0 where
   pub is_open : kept.end ≡ Open
   pub idle : IsIdle j
   pub short : length w.payload ≤ PACKET_LIMIT
-  pub asks : question_at m role party kept w.payload ≡ Some w.question
-  pub prepared : IsPrepared m party.random w.prepared
+  pub asks : question_at m role config kept w.payload ≡ Some w.question
+  pub prepared : IsPrepared m config.random w.prepared
 
+-- where a packet waits and the session goes on, the packet asks, and what is prepared is what the suite answers
 abbrev pub IsAskedBy : SuiteData → Side → ConfigData → StateData → Input → Option WaitingData → Type 0
-IsAskedBy m role party kept j None = Unit {0}
-IsAskedBy m role party kept j (Some w) = IsOngoing kept.end → IsAsked m role party kept j w
+IsAskedBy m role config kept j None = Unit {0}
+IsAskedBy m role config kept j (Some w) = IsOngoing kept.end → IsAsked m role config kept j w
 
 -- what is true of every asking endpoint: where its session goes on, its reader may be given bytes, and what it keeps is of use with
 -- its suite and its config
-pub record IsAskingEndpoint (m : SuiteData) (role : Side) (party : ConfigData) (kept : StateData) (j : Input) (w : Option WaitingData) : Type 0 where
+pub record IsAskingEndpoint (m : SuiteData) (role : Side) (config : ConfigData) (kept : StateData) (j : Input) (w : Option WaitingData) : Type 0 where
   pub reads : IsOngoing kept.end → CanRead m j
-  pub asked : IsAskedBy m role party kept j w
-  pub keeps : IsOngoing kept.end → FitsConfig m party kept
+  pub asked : IsAskedBy m role config kept j w
+  pub keeps : IsOngoing kept.end → FitsConfig m config kept
 
 -- A packet was read that asks, with the last of these bytes, and nothing more was done.
-pub record StopsAt (m : SuiteData) (role : Side) (party : ConfigData) (i : Input) (old : StateData) (j : Input) (new : StateData) (w : WaitingData) (taken before after : List ℕ) : Type 0 where
+pub record StopsAt (m : SuiteData) (role : Side) (config : ConfigData) (i : Input) (old : StateData) (j : Input) (new : StateData) (w : WaitingData) (taken before after : List ℕ) : Type 0 where
   pub same : new ≡ old
   pub nothing_sent : after ≡ before
   pub reads : ReadsPacket m i j w taken
-  pub asked : IsAsked m role party new j w
+  pub asked : IsAsked m role config new j w
 
 -- What a step did that used these bytes: it went on, whatever is decided; or it stopped at a packet that asks.
 abbrev pub AskingSteps : SuiteData → Side → ConfigData → Input → StateData → Input → StateData → Option WaitingData → List ℕ → List ℕ → List ℕ → Type 0
-AskingSteps m role party i old j new None taken before after = (d : DecisionsData) → Steps (setup_with m d role party) i old j new taken before after
-AskingSteps m role party i old j new (Some w) taken before after = StopsAt m role party i old j new w taken before after
+AskingSteps m role config i old j new None taken before after = (d : DecisionsData) → Steps (setup_with m d role config) i old j new taken before after
+AskingSteps m role config i old j new (Some w) taken before after = StopsAt m role config i old j new w taken before after
 
 -- What an answer did, wherever the packet was read: a step that used the packet's bytes, for all decisions that answer so.
 abbrev pub AnswerSteps : SuiteData → Side → ConfigData → AnswerData → WaitingData → Input → StateData → Input → StateData → List ℕ → List ℕ → Type 0
-AnswerSteps m role party answer w j old k new before after =
-    (d : DecisionsData) → decided d w.question ≡ answer → (i : Input) (taken : List ℕ) → ReadsPacket m i j w taken → Steps (setup_with m d role party) i old k new taken before after
+AnswerSteps m role config answer w j old k new before after =
+    (d : DecisionsData) → decided d w.question ≡ answer → (i : Input) (taken : List ℕ) → ReadsPacket m i j w taken → Steps (setup_with m d role config) i old k new taken before after
 
 -- The keys that are due after a packet are taken into use (RFC 4253 section 7.3), from number 0 where the endpoint is strict.
 abbrev pub reads_with : Option KeysData → Bool → PacketReaderData → PacketReaderData
 reads_with None strict r = r
 reads_with (Some keys) strict r = record r { keys = Some keys; seq = if strict then 0 else r.seq }
 
+-- the keys that are due are now in use by the reader, and no longer kept beside it
 pub record Turns (old new : StateData) (p q : PacketReader) : Type 0 where
   pub left : new ≡ record old { carried = record old.carried { pending = keys_left old.phase old.carried.pending } }
   pub reads : packet_reader_data q ≡ reads_with (keys_due old.phase old.carried.pending) old.known.strict (packet_reader_data p)
 
+-- the keys that are due are now in use by the reader; the input has to be packets before and after
 abbrev pub IsTurned : StateData → StateData → Input → Input → Type 0
 IsTurned old new (input.Packets p) (input.Packets q) = Turns old new p q
 IsTurned old new i j = ⊥

@@ -1,13 +1,15 @@
 -- What contracts see of a packet that waits for its answer.
 
 use Rattle.std.specs.Prelude.{Option, None, Some}
-use Rattle.sshcore.specs.declared.waiting.Waiting.{Waiting}
+use Rattle.sshcore.specs.declared.asking_waiting.Waiting.{Waiting}
 use Rattle.sshcore.specs.AskingData.{WaitingData}
 use Rattle.sshcore.specs.QuestionsView.{asked_data}
 
+-- the twin of a packet that waits for an answer
 abbrev pub waiting_data : Waiting → WaitingData
 waiting_data w = record { packet = w.packet; payload = w.payload.items; question = asked_data w.asked; prepared = w.prepared }
 
+-- the twin of the packet that waits, if one does
 abbrev pub waiting_of : Option Waiting → Option WaitingData
 waiting_of None = None
 waiting_of (Some w) = Some (waiting_data w)

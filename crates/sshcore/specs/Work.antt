@@ -25,17 +25,18 @@ use Rattle.sshcore.specs.Attempts.{attempt_reply, failure_reply, pk_ok_reply, su
 use Rattle.sshcore.specs.Before.{strict_towards}
 use Rattle.sshcore.specs.EndData.{Closed, Reply, fails, goes}
 use Rattle.sshcore.specs.Exchange.{answer_with, choice_with, exchange_with, own_kexinit, secret_of}
-use Rattle.sshcore.specs.Known.{Known}
+use Rattle.sshcore.specs.KnownBefore.{Known}
 use Rattle.sshcore.specs.EndpointParts.{ConfigData, DecisionsData, Setup}
 use Rattle.sshcore.specs.Requests.{request_reply}
 use Rattle.sshcore.specs.Signatures.{signature_by}
 
--- the messages of an exchange in a form of shares: RFC 4253 section 8, RFC 5656 section 4
+-- the client's exchange message in a form of shares: KEXDH_INIT (RFC 4253 section 8) or KEX_ECDH_INIT (RFC 5656 section 4)
 abbrev pub init_in : ShareForm → List ℕ → MessageData
 init_in Mpint share = KexdhInit share
 init_in OctetString share = KexEcdhInit share
 init_in Hybrid share = KexEcdhInit share
 
+-- the server's exchange message in a form of shares: KEXDH_REPLY (RFC 4253 section 8) or KEX_ECDH_REPLY (RFC 5656 section 4)
 abbrev pub reply_in : ShareForm → List ℕ → List ℕ → List ℕ → MessageData
 reply_in Mpint host_key share signature = KexdhReply host_key share signature
 reply_in OctetString host_key share signature = KexEcdhReply host_key share signature
@@ -43,49 +44,54 @@ reply_in Hybrid host_key share signature = KexEcdhReply host_key share signature
 
 -- a client's first message of an exchange by this method, in the method's own form
 abbrev pub init_for : SuiteData → ConfigData → List ℕ → List ℕ
-init_for m party kex = written_message (init_in (m.share_form kex) (m.share kex party.random))
+init_for m config kex = written_message (init_in (m.share_form kex) (m.share kex config.random))
 
--- the first of the own methods, which a guess is made for
+-- the name, if there is one, else no bytes
 abbrev pub name_or : Option (List ℕ) → List ℕ
 name_or (Some name) = name
 name_or None = []
 
+-- the method of a guess: the first of the own methods, without markers (RFC 4253 section 7)
 abbrev pub guessed_method : ConfigData → List ℕ
-guessed_method party = name_or (first_name (methods party.offer.kex_algorithms))
+guessed_method config = name_or (first_name (methods config.offer.kex_algorithms))
 
 -- a client's guess (RFC 4253 section 7); a server guesses nothing (profile)
 abbrev pub guess_of : SuiteData → Side → ConfigData → Units
-guess_of m Server party = []
-guess_of m Client party = if party.offer.first_kex_packet_follows then init_for m party (guessed_method party) ∷ [] else []
+guess_of m Server config = []
+guess_of m Client config = if config.offer.first_kex_packet_follows then init_for m config (guessed_method config) ∷ [] else []
 
 -- what is sent before anything is received: KEXINIT, and a guess
 abbrev pub making : SuiteData → Side → ConfigData → Units
-making m role party = own_kexinit party ∷ guess_of m role party
+making m role config = own_kexinit config ∷ guess_of m role config
 
 -- at KEXINIT a client sends the first message of the exchange, unless it was sent as a guess, and that was right (RFC 4253 section 7)
 abbrev pub opening : SuiteData → Side → ConfigData → KexInitData → List ℕ → Units
-opening m Server party peer kex = []
-opening m Client party peer kex =
-    if party.offer.first_kex_packet_follows && is_right_guess party.offer peer then [] else init_for m party kex ∷ []
+opening m Server config peer kex = []
+opening m Client config peer kex =
+    if config.offer.first_kex_packet_follows && is_right_guess config.offer peer then [] else init_for m config kex ∷ []
 
+-- what an endpoint does when the algorithms are chosen: it goes on with them; without a choice it fails, by the first field that has none
+-- (RFC 4253 section 7.1)
 abbrev pub chosen_reply : SuiteData → Side → ConfigData → KexInitData → Result AlgorithmsData NoCommon → Reply
-chosen_reply m role party peer (Ok a) = goes (opening m role party peer a.kex)
-chosen_reply m role party peer (Err f) = fails (fault.NoCommon f)
+chosen_reply m role config peer (Ok a) = goes (opening m role config peer a.kex)
+chosen_reply m role config peer (Err f) = fails (fault.NoCommon f)
 
 -- KEXINIT: strictness, which punishes what stood before it (OpenSSH PROTOCOL section 1.10); then the choice; then the guess
 unfoldable pub kexinit_reply : SuiteData → Side → ConfigData → Known → KexInitData → Reply
-kexinit_reply m role party known peer =
-    if strict_towards role party.strict (Some peer) && not known.first then fails (fault.Strict SSH_MSG_KEXINIT)
-    else chosen_reply m role party peer (choice_with m role party.offer (Some peer))
+kexinit_reply m role config known peer =
+    if strict_towards role config.strict (Some peer) && not known.first then fails (fault.Strict SSH_MSG_KEXINIT)
+    else chosen_reply m role config peer (choice_with m role config.offer (Some peer))
 
 -- whether a client's offer asks for extensions: the marker stands in its kex list (RFC 8308 section 2.1)
 abbrev pub asks_by : Option KexInitData → Bool
 asks_by None = false
 asks_by (Some peer) = is_in peer.kex_algorithms (codes "ext-info-c")
 
+-- whether the client's KEXINIT in this payload asks for extensions (RFC 8308 section 2.1)
 abbrev pub asks_for_extensions : List ℕ → Bool
 asks_for_extensions kexinit = asks_by (offer_in kexinit)
 
+-- the name `server-sig-algs` (RFC 8308 section 3.1)
 abbrev pub server_sig_algs : List ℕ
 server_sig_algs = codes "server-sig-algs"
 
@@ -96,26 +102,30 @@ extensions_by [] asks = []
 extensions_by (name ∷ names) false = []
 extensions_by (name ∷ names) true = written_message (ExtInfo ((server_sig_algs, names_body (name ∷ names)) ∷ [])) ∷ []
 
+-- what a server sends its client right after NEWKEYS, by its config and the client's KEXINIT (RFC 8308 sections 2.2 and 2.4)
 abbrev pub told_by : ConfigData → Known → Units
-told_by party known = extensions_by party.signature_algorithms (asks_for_extensions known.kexinit)
+told_by config known = extensions_by config.signature_algorithms (asks_for_extensions known.kexinit)
 
 -- The first message of the exchange at a server: its answer to the client's share, then the signature of the exchange hash,
 -- and NEWKEYS (RFC 4253 sections 8 and 7.3), and what it tells a client that asks. Without a signature, or a shared secret, the exchange
 -- fails (profile).
 abbrev pub signed_reply : ConfigData → Known → ExchangeData → Option (List ℕ) → Reply
-signed_reply party known x None = fails fault.Exchange
-signed_reply party known x (Some signature) =
-    goes (written_message (reply_in known.shares x.host_key x.server_share signature) ∷ written_message NewKeys ∷ told_by party known)
+signed_reply config known x None = fails fault.Exchange
+signed_reply config known x (Some signature) =
+    goes (written_message (reply_in known.shares x.host_key x.server_share signature) ∷ written_message NewKeys ∷ told_by config known)
 
+-- What a server does at the client's share: it answers with the signature by the key that is configured for the chosen algorithm. Without a
+-- shared secret it fails, as F9 (RFC 4253 section 8; F9 is profile).
 abbrev pub answered_by : SuiteData → DecisionsData → ConfigData → Known → ExchangeData → Option ResponseData → Reply
-answered_by m d party known x None = fails fault.Exchange
-answered_by m d party known x (Some answer) =
-    signed_reply party known x (signature_by m d 0 known.algorithms.host_key (secret_of party.host_keys known.algorithms.host_key) (exchange_hash m known.algorithms.kex x))
+answered_by m d config known x None = fails fault.Exchange
+answered_by m d config known x (Some answer) =
+    signed_reply config known x (signature_by m d 0 known.algorithms.host_key (secret_of config.host_keys known.algorithms.host_key) (exchange_hash m known.algorithms.kex x))
 
+-- what a server does at the client's share, as the message that brings it has it (RFC 4253 section 8)
 unfoldable pub init_reply : SuiteData → DecisionsData → Side → ConfigData → Known → MessageData → Reply
-init_reply m d role party known message =
-    answered_by m d party known (exchange_with m role party known.algorithms known.version known.kexinit (Ok message))
-    (answer_with m role party known.algorithms (Ok message))
+init_reply m d role config known message =
+    answered_by m d config known (exchange_with m role config known.algorithms known.version known.kexinit (Ok message))
+    (answer_with m role config known.algorithms (Ok message))
 
 -- the name of the service of authentication (RFC 4252 section 4)
 abbrev pub userauth : List ℕ
@@ -130,23 +140,28 @@ signed_by m known x signature (Some answer) =
     then goes (written_message NewKeys ∷ written_message (ServiceRequest userauth) ∷ [])
     else fails fault.Signature
 
+-- What a client does at the server's share: first it asks whether the host key is trusted, and if not fails, as F10 (RFC 4253 section 8;
+-- the order is profile).
 abbrev pub trusted_by : SuiteData → DecisionsData → Known → ExchangeData → List ℕ → Option ResponseData → Reply
 trusted_by m d known x signature answer =
     if d.host_key known.algorithms.host_key x.host_key then signed_by m known x signature answer else fails fault.HostKey
 
+-- what a client does at the server's share, as the message that brings it has it (RFC 4253 section 8)
 unfoldable pub reply_reply : Setup → Known → MessageData → List ℕ → Reply
 reply_reply setup known message signature =
     trusted_by setup.suite setup.decisions known (exchange_with setup.suite setup.role setup.config known.algorithms known.version known.kexinit (Ok message)) signature
     (answer_with setup.suite setup.role setup.config known.algorithms (Ok message))
 
--- SERVICE_REQUEST at a server (RFC 4253 section 10), with the banner after the answer (RFC 4252 section 5.4)
+-- the banner that follows SERVICE_ACCEPT, if there is one (RFC 4252 section 5.4)
 abbrev pub banner_by : Option (List ℕ) → Units
 banner_by None = []
 banner_by (Some text) = written_message (UserauthBanner text []) ∷ []
 
+-- What a server does at SERVICE_REQUEST (RFC 4253 section 10): it accepts `ssh-userauth` and sends the banner, if it has one (RFC 4252
+-- section 5.4). At any other service it fails, as F12.
 abbrev pub service_reply : ConfigData → List ℕ → Reply
-service_reply party service =
-    if bytes_eq service userauth then goes (written_message (ServiceAccept userauth) ∷ banner_by party.banner)
+service_reply config service =
+    if bytes_eq service userauth then goes (written_message (ServiceAccept userauth) ∷ banner_by config.banner)
     else fails fault.Service
 
 -- SERVICE_ACCEPT at a client: the first attempt of its plan is made (RFC 4252 section 5)

@@ -10,7 +10,7 @@ ghost use Rattle.sshcore.specs.EndData.{Failed, Open, by_input, end_data};
 ghost use Rattle.sshcore.specs.EndpointConfig.{config_data, role_of};
 ghost use Rattle.sshcore.specs.EndpointParts.{DecisionsData};
 ghost use Rattle.sshcore.specs.Inputs.{CanRead, EndpointStands, turns_left};
-ghost use Rattle.sshcore.specs.declared.given.Answer.TheVariants as given;
+ghost use Rattle.sshcore.specs.declared.asking_given.Answer.TheVariants as given;
 ghost use Rattle.sshcore.specs.QuestionsView.{answer_data, question_data};
 ghost use Rattle.sshcore.specs.Questions.{Decided, decided, question_at, taken, taken_by};
 ghost use Rattle.sshcore.specs.Keeping.{StillFits};
@@ -19,15 +19,15 @@ ghost use Rattle.sshcore.specs.Unread.{AnswerSteps, IsAsked, IsIdle, IsTurned};
 ghost use Rattle.sshcore.specs.WaitingView.{waiting_data};
 
 use crate::asking_endpoint::AskingEndpoint;
+use crate::asking_given::{Answer, Given, Listener};
 use crate::asking_input::turn;
+use crate::asking_question::Question;
+use crate::asking_waiting::Waiting;
 use crate::config::Config;
 use crate::decisions::Decisions;
 use crate::end::{End, Fault};
-use crate::given::{Answer, Given, Listener};
 use crate::input::Input;
-use crate::question::Question;
 use crate::state::State;
-use crate::waiting::Waiting;
 use sshpacket::Suite;
 use sshwire::Memory;
 
@@ -40,7 +40,7 @@ impl<S: Suite, L: Listener> AskingEndpoint<'_, S, L> {
         ensures asks { option_map question_data result ≡ asked_by self.now }
         // It is what the packet asks that was read last.
         ensures packet { (w : WaitingData) → self.now.waiting ≡ Some w → asking_end self.now ≡ Open
-            → question_at (S.meaning self.now.suite) self.now.role self.now.party (state_data self.now.state) w.payload ≡ Some w.question }
+            → question_at (S.meaning self.now.suite) self.now.role self.now.config (state_data self.now.state) w.payload ≡ Some w.question }
         // An endpoint that waits for none has received and sent as one that asks at once.
         ensures as_at_once { (d : DecisionsData) (h s : List ℕ) → self.now.waiting ≡ None → AskingAfter S.meaning d self.now h s
             → EndpointStands (asking_setup S.meaning d self.now) (state_data self.now.state) self.now.input h s }

@@ -17,11 +17,11 @@ ghost use Rattle.sshcore.specs.Sessions.{IsSession};
 ghost use Rattle.sshcore.specs.Shown.{ShowsTheSame};
 
 use crate::asking_endpoint::AskingEndpoint;
-use crate::chosen_names::ChosenNames;
+use crate::asking_given::Listener;
 use crate::end::{End, Fault};
-use crate::given::Listener;
+use crate::kex_chosen_names::ChosenNames;
+use crate::phase_table::Phase;
 use crate::session::{Session, accepted_by, session_of};
-use crate::table::Phase;
 use sshpacket::Suite;
 use sshwire::Memory;
 
@@ -89,7 +89,7 @@ impl<S: Suite, L: Listener> AskingEndpoint<'_, S, L> {
         ensures kept { result ≡ self.now.state.phase }
         // For every history of an open endpoint: the first phase whose leaving message it hasn't received.
         ensures waits { (d : DecisionsData) (h s : List ℕ) (a : AskingAfter S.meaning d self.now h s) → asking_end self.now ≡ Open
-            → phase_at self.now.role self.now.party.offer (payloads_in a.stands.units) ≡ result }
+            → phase_at self.now.role self.now.config.offer (payloads_in a.stands.units) ≡ result }
     {
         self.state.phase
     }
@@ -101,7 +101,7 @@ impl<S: Suite, L: Listener> AskingEndpoint<'_, S, L> {
         ensures there { is_some result ≡ past_kexinit self.now.state.phase }
         // For every history of an open endpoint: what both KEXINITs say.
         ensures both { (d : DecisionsData) (h s : List ℕ) (a : AskingAfter S.meaning d self.now h s) → asking_end self.now ≡ Open
-            → IfSome result (λ strict. strict ≡ strict_at self.now.role self.now.party (payloads_in a.stands.units)) }
+            → IfSome result (λ strict. strict ≡ strict_at self.now.role self.now.config (payloads_in a.stands.units)) }
     {
         match &self.state.algorithms {
             Some(_) => Some(self.state.strict),
@@ -118,7 +118,7 @@ impl<S: Suite, L: Listener> AskingEndpoint<'_, S, L> {
         ensures there { is_some result ≡ past_kexinit self.now.state.phase }
         // For every history of an open endpoint: they are chosen by what was received and sent.
         ensures chosen { (d : DecisionsData) (h s : List ℕ) (a : AskingAfter S.meaning d self.now h s) → asking_end self.now ≡ Open
-            → IfSome result (λ names. names_of names ≡ algorithms_at (S.meaning self.now.suite) self.now.role self.now.party (payloads_in a.stands.units)) }
+            → IfSome result (λ names. names_of names ≡ algorithms_at (S.meaning self.now.suite) self.now.role self.now.config (payloads_in a.stands.units)) }
     {
         match &self.state.algorithms {
             Some(algorithms) => Some(algorithms.names()),
@@ -159,7 +159,7 @@ impl<S: Suite, L: Listener> AskingEndpoint<'_, S, L> {
         let outgoing = (state.keys_out, state.number_out);
         let versions = (state.own_version, state.version);
         let user_key = state.user_key;
-        let accepted = accepted_by(role, &state.reached, user_key);
+        let accepted = accepted_by(role, &state.completed, user_key);
         session_of(
             state.end.into_agreed(),
             versions,

@@ -16,16 +16,16 @@ ghost use Rattle.sshcore.specs.StateData.{state_data};
 ghost use Rattle.sshcore.specs.Unread.{AskingSteps};
 ghost use Rattle.sshcore.specs.WaitingView.{waiting_of};
 
+use crate::asking_given::Listener;
 use crate::asking_input::Came;
-use crate::client_config::ClientConfig;
+use crate::asking_waiting::Waiting;
 use crate::config::Config;
-use crate::draws::Draws;
+use crate::config_client::ClientConfig;
+use crate::config_draws::Draws;
+use crate::config_server::ServerConfig;
 use crate::end::{End, Fault};
-use crate::given::Listener;
 use crate::input::Input;
-use crate::server_config::ServerConfig;
 use crate::state::State;
-use crate::waiting::Waiting;
 use sshpacket::Suite;
 use sshwire::Memory;
 use std::alloc::Global;
@@ -65,7 +65,7 @@ impl<'a, S: Suite, L: Listener> Model for AskingEndpoint<'a, S, L> {
 
     ghost view = { λ e. record {
       role = role_of e.config;
-      party = config_data e.config;
+      config = config_data e.config;
       suite = e.suite.now;
       input = e.input;
       state = e.state;

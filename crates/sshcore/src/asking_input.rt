@@ -14,12 +14,12 @@ ghost use Rattle.sshcore.specs.StateData.{state_data};
 ghost use Rattle.sshcore.specs.Unread.{AskingSteps, Turns};
 ghost use Rattle.sshcore.specs.WaitingView.{waiting_of};
 
+use crate::asking_given::{Answer, Given, Listener};
+use crate::asking_waiting::Waiting;
 use crate::config::Config;
-use crate::given::{Answer, Given, Listener};
 use crate::input::{Input, Received, fail_packet, receive_lines};
-use crate::notice::{line_of, tell_lines};
+use crate::notice::{give_lines, line_of};
 use crate::state::State;
-use crate::waiting::Waiting;
 use sshpacket::{PacketReader, PacketStep, Suite};
 use sshwire::Memory;
 
@@ -62,11 +62,11 @@ impl Input {
             Input::Lines(reader) => {
                 let begun = line_of(reader.unfinished());
                 let received = receive_lines(reader, state, piece)?;
-                let told = Given {
+                let notices = Given {
                     answer: Answer::Decided(false),
                     listener,
                 };
-                tell_lines(&told, begun, piece.get(..received.used()).unwrap_or(&[]));
+                give_lines(&notices, begun, piece.get(..received.used()).unwrap_or(&[]));
                 match received {
                     Received::Part(used) => Ok(Came {
                         used,

@@ -25,9 +25,9 @@ ghost use Rattle.sshcore.specs.Standing.{Sits};
 ghost use Rattle.sshcore.specs.StateData.{StateData};
 
 use crate::asking_endpoint::AskingEndpoint;
+use crate::asking_given::Listener;
 use crate::decisions::Decisions;
 use crate::endpoint::Endpoint;
-use crate::given::Listener;
 use crate::law::{authentication_law, history_law, strict_law};
 use sshpacket::Suite;
 
@@ -40,8 +40,8 @@ pub fn questions_law()
     // Whatever was answered to questions that are asked once, some decisions give these answers.
     ensures answers { (answers : List AnsweredData) → IsAskedOnce (map (λ (a : AnsweredData). a.question) answers) → AllByRecursion IsTaken answers → (d : DecisionsData) × GiveAll d answers }
     // What payloads ask is the same under any decisions.
-    ensures same { (m : SuiteData) (role : Side) (party : ConfigData) (d e : DecisionsData) (version : List ℕ) (before : Units)
-        → questions_at (setup_with m d role party) version before ≡ questions_at (setup_with m e role party) version before }
+    ensures same { (m : SuiteData) (role : Side) (config : ConfigData) (d e : DecisionsData) (version : List ℕ) (before : Units)
+        → questions_at (setup_with m d role config) version before ≡ questions_at (setup_with m e role config) version before }
     // Nothing is asked before the first payload, and with each more what that asks.
     ensures nothing { (setup : Setup) (version : List ℕ) → questions_at setup version [] ≡ [] }
     ensures more { (setup : Setup) (version : List ℕ) (before : Units) (payload : List ℕ)
@@ -88,12 +88,12 @@ pub fn asking_law<S: Suite, L: Listener, M: Listener>(
     ensures cut { (d : DecisionsData) (h s : List ℕ) (a : AskingAfter S.meaning d one.now h s) → asking_end one.now ≡ Failed fault.Cut → a.stands.received_end ≡ Open }
     ensures left { (d : DecisionsData) (h s : List ℕ) (a : AskingAfter S.meaning d one.now h s) (reason : ℕ) → asking_end one.now ≡ Disconnected reason → a.stands.received_end ≡ Open }
     // What was received keeps strictness, whoever sent it, and whatever is decided.
-    ensures strict { (d : DecisionsData) (h s : List ℕ) (a : AskingAfter S.meaning d one.now h s) → KeepsStrict one.now.role one.now.party a.stands.units a.stands.received_end }
+    ensures strict { (d : DecisionsData) (h s : List ℕ) (a : AskingAfter S.meaning d one.now h s) → KeepsStrict one.now.role one.now.config a.stands.units a.stands.received_end }
     // By what was received, and by the decisions, the user was accepted, where an endpoint ended authenticated; and one that is
     // strict was given a strict sequence first.
     ensures authenticated { (d : DecisionsData) (h s : List ℕ) (a : AskingAfter S.meaning d one.now h s) (g : AgreedData) → asking_end one.now ≡ Authenticated g
         → IsAuthenticated (asking_setup S.meaning d one.now) a.stands.units g
-        × (strict_at one.now.role one.now.party (payloads_in a.stands.units) ≡ true → BeginsStrictly one.now.role one.now.party.offer (payloads_in a.stands.units)) }
+        × (strict_at one.now.role one.now.config (payloads_in a.stands.units) ≡ true → BeginsStrictly one.now.role one.now.config.offer (payloads_in a.stands.units)) }
 {
     sshmsg::numbers_law();
     sshpacket::parser_by_law();

@@ -8,12 +8,12 @@ ghost use Rattle.sshneg.specs.declared.side.Side.{Side};
 ghost use Rattle.sshneg.specs.Markers.{strict_marker};
 ghost use Rattle.sshcore.specs.declared.config_parts.TheConstants.{LIST_LIMIT};
 ghost use Rattle.sshcore.specs.ConfigParts.{ClientData, ServerData, client_offer, server_offer};
-ghost use Rattle.sshcore.specs.declared.draws.Draws.{Draws};
+ghost use Rattle.sshcore.specs.declared.config_draws.Draws.{Draws};
 ghost use Rattle.sshcore.specs.ConfigRules.{FitsKexInit, IsClient, IsServer};
 ghost use Rattle.sshcore.specs.Redrawn.{AreDraws, redrawn_client, redrawn_server};
 
+use crate::config_draws::Draws;
 use crate::config_version::bytes_law;
-use crate::draws::Draws;
 
 /// The law of configs: the KEXINIT of an accepted config is well-formed and fits a payload, no marker of
 /// strictness stands in the kex list that is configured, and a config is accepted with any draws. Takes no

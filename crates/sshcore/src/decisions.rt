@@ -47,7 +47,7 @@ pub trait Decisions {
     /// Whether what a request claims is accepted for this user, of requests counted from 1 (RFC 4252 section 5);
     /// of a query whether its key would do (section 7). It is asked before a signature is verified, which is done
     /// after a yes alone, once. A yes to a request accepts the user, unless its signature is wrong, or methods
-    /// are required that aren't reached yet (section 5.1). It is asked of the method `none` too, whatever
+    /// are required that aren't completed yet (section 5.1). It is asked of the method `none` too, whatever
     /// methods the server lists: say no to `Proof::None` where nobody is accepted without a proof.
     fn user(&self, request_number: u32, user: &str, service: &str, proof: &Proof<'_>) -> bool
         ensures { result ≡ (policy self.now).user request_number user.now service.now (proof_data proof.now) };
@@ -68,7 +68,7 @@ pub trait Decisions {
 
     /// Is told what the peer tells people, by a message before the endpoint answers that, or by a line before the
     /// version line. It can't change what is answered. Does nothing, unless whoever decides has a body of its own.
-    fn told(&self, notice: Notice<'_>) {
+    fn notice(&self, notice: Notice<'_>) {
         let _ = notice;
     }
 }

@@ -22,18 +22,18 @@ ghost use Rattle.sshcore.specs.Shown.{ShowsTheSame};
 ghost use Rattle.sshcore.specs.EndpointData.{endpoint_setup};
 
 use crate::asking_answer::answer_packet;
-use crate::chosen_names::ChosenNames;
-use crate::client_config::ClientConfig;
+use crate::asking_given::Tells;
 use crate::config::Config;
+use crate::config_client::ClientConfig;
+use crate::config_draws::Draws;
+use crate::config_server::ServerConfig;
 use crate::decisions::Decisions;
-use crate::draws::Draws;
 use crate::end::{End, Fault};
-use crate::given::Tells;
 use crate::input::Input;
-use crate::server_config::ServerConfig;
+use crate::kex_chosen_names::ChosenNames;
+use crate::phase_table::Phase;
 use crate::session::{Session, accepted_by, session_of};
 use crate::state::State;
-use crate::table::Phase;
 use sshpacket::Suite;
 use sshwire::Memory;
 use std::alloc::Global;
@@ -67,7 +67,7 @@ impl<'a, S: Suite, D: Decisions> Model for Endpoint<'a, S, D> {
 
     ghost view = { λ e. record {
       role = role_of e.config;
-      party = config_data e.config;
+      config = config_data e.config;
       suite = e.suite.now;
       decisions = e.decisions.now;
       input = e.input;
@@ -295,7 +295,7 @@ impl<'a, S: Suite, D: Decisions> Endpoint<'a, S, D> {
     pub fn phase(&self) -> Phase
         ensures kept { result ≡ self.now.state.phase }
         // For every history of an open endpoint: the first phase whose leaving message it hasn't received.
-        ensures waits { (h s : List ℕ) (a : EndpointAfter S.meaning D.policy self.now h s) → endpoint_end self.now ≡ Open → phase_at self.now.role self.now.party.offer (payloads_in a.units) ≡ result }
+        ensures waits { (h s : List ℕ) (a : EndpointAfter S.meaning D.policy self.now h s) → endpoint_end self.now ≡ Open → phase_at self.now.role self.now.config.offer (payloads_in a.units) ≡ result }
     {
         self.state.phase
     }
@@ -307,7 +307,7 @@ impl<'a, S: Suite, D: Decisions> Endpoint<'a, S, D> {
         ensures there { is_some result ≡ past_kexinit self.now.state.phase }
         // For every history of an open endpoint: what both KEXINITs say.
         ensures both { (h s : List ℕ) (a : EndpointAfter S.meaning D.policy self.now h s) → endpoint_end self.now ≡ Open
-            → IfSome result (λ strict. strict ≡ strict_at self.now.role self.now.party (payloads_in a.units)) }
+            → IfSome result (λ strict. strict ≡ strict_at self.now.role self.now.config (payloads_in a.units)) }
     {
         match &self.state.algorithms {
             Some(_) => Some(self.state.strict),
@@ -324,7 +324,7 @@ impl<'a, S: Suite, D: Decisions> Endpoint<'a, S, D> {
         ensures there { is_some result ≡ past_kexinit self.now.state.phase }
         // For every history of an open endpoint: they are chosen by what was received and sent.
         ensures chosen { (h s : List ℕ) (a : EndpointAfter S.meaning D.policy self.now h s) → endpoint_end self.now ≡ Open
-            → IfSome result (λ names. names_of names ≡ algorithms_at (S.meaning self.now.suite) self.now.role self.now.party (payloads_in a.units)) }
+            → IfSome result (λ names. names_of names ≡ algorithms_at (S.meaning self.now.suite) self.now.role self.now.config (payloads_in a.units)) }
     {
         match &self.state.algorithms {
             Some(algorithms) => Some(algorithms.names()),
@@ -362,7 +362,7 @@ impl<'a, S: Suite, D: Decisions> Endpoint<'a, S, D> {
         let outgoing = (state.keys_out, state.number_out);
         let versions = (state.own_version, state.version);
         let user_key = state.user_key;
-        let accepted = accepted_by(role, &state.reached, user_key);
+        let accepted = accepted_by(role, &state.completed, user_key);
         session_of(
             state.end.into_agreed(),
             versions,

@@ -36,12 +36,12 @@ pub fn endpoint_law<S: Suite, D: Decisions>(one: &Endpoint<'_, S, D>, other: &En
     ensures cut { (h s : List ℕ) (a : EndpointAfter S.meaning D.policy one.now h s) → endpoint_end one.now ≡ Failed fault.Cut → a.received_end ≡ Open }
     ensures left { (h s : List ℕ) (a : EndpointAfter S.meaning D.policy one.now h s) (reason : ℕ) → endpoint_end one.now ≡ Disconnected reason → a.received_end ≡ Open }
     // What was received keeps strictness, whoever sent it.
-    ensures strict { (h s : List ℕ) (a : EndpointAfter S.meaning D.policy one.now h s) → KeepsStrict one.now.role one.now.party a.units a.received_end }
+    ensures strict { (h s : List ℕ) (a : EndpointAfter S.meaning D.policy one.now h s) → KeepsStrict one.now.role one.now.config a.units a.received_end }
     // By what was received the user was accepted, where an endpoint ended authenticated; and one that is strict was
     // given a strict sequence first.
     ensures authenticated { (h s : List ℕ) (a : EndpointAfter S.meaning D.policy one.now h s) (g : AgreedData) → endpoint_end one.now ≡ Authenticated g
         → IsAuthenticated (endpoint_setup S.meaning D.policy one.now) a.units g
-        × (strict_at one.now.role one.now.party (payloads_in a.units) ≡ true → BeginsStrictly one.now.role one.now.party.offer (payloads_in a.units)) }
+        × (strict_at one.now.role one.now.config (payloads_in a.units) ≡ true → BeginsStrictly one.now.role one.now.config.offer (payloads_in a.units)) }
 {
     history_law();
     strict_law();

@@ -5,7 +5,7 @@ ghost use Rattle.sshmsg.specs.MessageData as content;
 ghost use Rattle.sshmsg.specs.Written.{written_message};
 ghost use Rattle.sshpacket.specs.declared.limits.TheConstants.{PACKET_LIMIT};
 ghost use Rattle.sshpacket.specs.KeysData.{KeysData};
-ghost use Rattle.sshcore.specs.Made.{IsMade};
+ghost use Rattle.sshcore.specs.MadePayloads.{IsMade};
 ghost use Rattle.sshcore.specs.EndData.{Open, end_data, reason_of};
 
 use crate::config::Config;

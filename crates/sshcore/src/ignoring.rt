@@ -7,18 +7,18 @@ ghost use Rattle.sshcore.specs.Brings.{received_counted};
 ghost use Rattle.sshcore.specs.StateData.{state_data};
 
 use crate::config_parts::IGNORED_OVERHEAD;
-use crate::packet_lines::{is_ignorable, kind};
+use crate::packet_dispositions::{is_ignorable, message_number};
+use crate::phase_table::Disposition;
 use crate::state::State;
-use crate::table::Line;
 
 impl State<'_> {
     /// Whether a payload that this line would take says nothing, and counts more than may still come.
-    pub(crate) fn takes_too_much(&self, line: Line, payload: &[u8]) -> bool
+    pub(crate) fn takes_too_much(&self, disposition: Disposition, payload: &[u8]) -> bool
         requires short { length payload.now ≤ PACKET_LIMIT }
-        ensures { result ≡ (is_taken line && overspends (state_data self.now).known.allowance payload.now) }
+        ensures { result ≡ (is_taken disposition && overspends (state_data self.now).known.allowance payload.now) }
     {
-        match line {
-            Line::Reads | Line::Unknown => self.overspends(payload),
+        match disposition {
+            Disposition::Reads | Disposition::Unknown => self.overspends(payload),
             _ => false,
         }
     }
@@ -30,7 +30,7 @@ impl State<'_> {
     {
         match self.allowance {
             None => false,
-            Some(left) => is_ignorable(kind(payload)) && left < cost(payload),
+            Some(left) => is_ignorable(message_number(payload)) && left < cost(payload),
         }
     }
 
@@ -40,7 +40,7 @@ impl State<'_> {
         ensures { state_data self.new ≡ record (state_data self.old) { known = received_counted (state_data self.old).known payload.now } }
     {
         self.first = false;
-        if is_ignorable(kind(payload)) {
+        if is_ignorable(message_number(payload)) {
             self.allowance = less(self.allowance, cost(payload));
         }
     }

@@ -2,10 +2,10 @@
 
 ghost use Rattle.std.specs.Prelude.{◌≡◌, ◌≤◌, OnOk, false, length, true};
 ghost use Rattle.sshmsg.specs.Messages.{message_in};
-ghost use Rattle.sshmsg.specs.Numbers.{kind};
+ghost use Rattle.sshmsg.specs.Numbers.{message_number};
 ghost use Rattle.sshpacket.specs.declared.limits.TheConstants.{PACKET_LIMIT};
 ghost use Rattle.sshcore.specs.declared.end.Fault.TheVariants as fault;
-ghost use Rattle.sshcore.specs.declared.table.Line.TheVariants as line;
+ghost use Rattle.sshcore.specs.declared.phase_table.Disposition.TheVariants as disposition;
 ghost use Rattle.sshcore.specs.Brings.{Brings, Works, received_one};
 ghost use Rattle.sshcore.specs.EndpointConfig.{role_of, setup_of};
 ghost use Rattle.sshcore.specs.EndData.{Failed, Open, by_input, end_data};
@@ -13,15 +13,15 @@ ghost use Rattle.sshcore.specs.Exchanged.{HasForm};
 ghost use Rattle.sshcore.specs.StateData.{state_data};
 ghost use Rattle.sshcore.specs.Replies.{read_reply};
 ghost use Rattle.sshcore.specs.Plan.{is_waiting};
-ghost use Rattle.sshcore.specs.Table.{line_by};
+ghost use Rattle.sshcore.specs.Table.{disposition_by};
 ghost use Rattle.sshcore.specs.Work.{work};
 
 use crate::config::Config;
 use crate::decisions::Decisions;
 use crate::end::Fault;
-use crate::packet_lines::{kind, line_of};
+use crate::packet_dispositions::{disposition_of, message_number};
+use crate::phase_table::Disposition;
 use crate::state::State;
-use crate::table::Line;
 use sshmsg::{MsgFault, read_exchange};
 use sshpacket::Suite;
 use sshwire::Memory;
@@ -44,9 +44,9 @@ impl State<'_> {
             → Brings (setup_of (S.meaning suite.now) (D.policy decisions.now) config.now) (state_data self.old) (state_data self.new) packet payload.now sent.old.items sent.new.items) }
         ensures kept { OnOk result (by_input (end_data self.new.end) ≡ true) }
     {
-        let number = kind(payload);
+        let number = message_number(payload);
         let waits = self.waits();
-        let line = line_of(
+        let disposition = disposition_of(
             config.role(),
             self.phase,
             self.strict,
@@ -54,18 +54,18 @@ impl State<'_> {
             waits,
             number,
         );
-        if self.takes_too_much(line, payload) {
+        if self.takes_too_much(disposition, payload) {
             return self.fail(config, suite, Fault::TooMuchIgnored, sent);
         }
-        match line {
-            Line::Reads => self.read(config, suite, decisions, payload, sent),
-            Line::Drops => {
+        match disposition {
+            Disposition::Reads => self.read(config, suite, decisions, payload, sent),
+            Disposition::Drops => {
                 self.drop_guess();
                 Ok(())
             }
-            Line::Deviates => self.fail(config, suite, Fault::Strict(number), sent),
-            Line::Unknown => self.tell_unknown(config, suite, payload, packet, sent),
-            Line::Unexpected => self.fail(config, suite, Fault::Unexpected(number), sent),
+            Disposition::Deviates => self.fail(config, suite, Fault::Strict(number), sent),
+            Disposition::Unknown => self.tell_unknown(config, suite, payload, packet, sent),
+            Disposition::Unexpected => self.fail(config, suite, Fault::Unexpected(number), sent),
         }
     }
 
@@ -88,16 +88,21 @@ impl State<'_> {
     ) -> Result<(), Memory>
         requires open { end_data self.old.end ≡ Open }
         requires short { length payload.now ≤ PACKET_LIMIT }
-        requires reads { line_by (role_of config.now) self.old.phase self.old.strict self.old.guess (is_waiting (state_data self.old).known.left) (kind payload.now) ≡ line.Reads }
+        requires reads { disposition_by (role_of config.now) self.old.phase self.old.strict self.old.guess (is_waiting (state_data self.old).known.left) (message_number payload.now) ≡ disposition.Reads }
         ensures works { OnOk result (HasForm (S.meaning suite.now) (state_data self.old)
             → Works (setup_of (S.meaning suite.now) (D.policy decisions.now) config.now) (state_data self.old) (state_data self.new) payload.now sent.old.items sent.new.items
-            (read_reply (setup_of (S.meaning suite.now) (D.policy decisions.now) config.now) (state_data self.old).known (kind payload.now) (message_in self.old.shares payload.now))) }
+            (read_reply (setup_of (S.meaning suite.now) (D.policy decisions.now) config.now) (state_data self.old).known (message_number payload.now) (message_in self.old.shares payload.now))) }
         ensures kept { OnOk result (by_input (end_data self.new.end) ≡ true) }
     {
         match read_exchange(self.alloc, payload, self.shares) {
             Ok(message) => self.work(config, suite, decisions, payload, &message, sent),
             Err(MsgFault::Memory) => Err(Memory),
-            Err(_) => self.fail(config, suite, Fault::Malformed(kind(payload)), sent),
+            Err(_) => self.fail(
+                config,
+                suite,
+                Fault::Malformed(message_number(payload)),
+                sent,
+            ),
         }
     }
 }

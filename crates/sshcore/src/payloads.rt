@@ -10,7 +10,7 @@ ghost use Rattle.sshpacket.specs.declared.limits.TheConstants.{BLOB_LIMIT, SIGNA
 ghost use Rattle.sshpacket.specs.Suite.{FitsShare};
 ghost use Rattle.sshcore.specs.EndpointConfig.{config_data};
 ghost use Rattle.sshcore.specs.Exchange.{own_kexinit};
-ghost use Rattle.sshcore.specs.Made.{IsMade};
+ghost use Rattle.sshcore.specs.MadePayloads.{IsMade};
 ghost use Rattle.sshcore.specs.declared.config_parts.TheConstants.{LIST_LIMIT};
 ghost use Rattle.sshcore.specs.Work.{init_for, init_in, reply_in, server_sig_algs, userauth};
 

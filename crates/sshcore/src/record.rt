@@ -8,10 +8,11 @@ ghost use Rattle.sshcore.specs.RecordView.{authentication_record, carried_record
 ghost use Rattle.sshcore.specs.StateData.{state_data};
 ghost use Rattle.sshcore.specs.WaitingView.{waiting_of};
 
-use crate::algorithms::Algorithms;
+use crate::asking_paused::PausedEndpoint;
+use crate::asking_waiting::Waiting;
 use crate::end::End;
 use crate::input::Input;
-use crate::paused_endpoint::PausedEndpoint;
+use crate::kex_algorithms::Algorithms;
 use crate::record_fault::RECORD_LIMIT;
 use crate::record_parts::{
     AuthenticationParts, CarriedParts, ExchangeParts, LentKeys, LentNames, LentUserKey,
@@ -19,7 +20,6 @@ use crate::record_parts::{
 };
 use crate::record_writing::put_record;
 use crate::state::State;
-use crate::waiting::Waiting;
 use sshpacket::Keys;
 use sshwire::Memory;
 use std::alloc::Global;
@@ -76,16 +76,16 @@ fn exchange_parts<'a>(state: &'a State<'_>) -> ExchangeParts<'a>
 /// What is known of authentication.
 fn authentication_parts<'a>(state: &'a State<'_>) -> AuthenticationParts<'a>
     ensures same { authentication_record result ≡ authentication_of state.now }
-    ensures user { IsUtf8 (authentication_of state.now).reached.user }
-    ensures service { IsUtf8 (authentication_of state.now).reached.service }
+    ensures user { IsUtf8 (authentication_of state.now).completed.user }
+    ensures service { IsUtf8 (authentication_of state.now).completed.service }
 {
     AuthenticationParts {
         request: state.request,
         allowance: state.allowance,
-        user: state.reached.user.as_bytes(),
-        service: state.reached.service.as_bytes(),
-        password: state.reached.password,
-        publickey: state.reached.publickey,
+        user: state.completed.user.as_bytes(),
+        service: state.completed.service.as_bytes(),
+        password: state.completed.password,
+        publickey: state.completed.publickey,
     }
 }
 

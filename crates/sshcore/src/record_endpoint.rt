@@ -17,18 +17,18 @@ ghost use Rattle.sshcore.specs.declared.record_fault.TheConstants.{RECORD_VERSIO
 ghost use Rattle.sshcore.specs.Redrawn.{redrawn_client, redrawn_server};
 ghost use Rattle.sshcore.specs.StateData.{state_data};
 
-use crate::client_config::ClientConfig;
+use crate::asking_paused::{PausedEndpoint, last_of};
 use crate::config::Config;
-use crate::draws::Draws;
-use crate::paused_endpoint::{PausedEndpoint, last_of};
+use crate::config_client::ClientConfig;
+use crate::config_draws::Draws;
+use crate::config_server::ServerConfig;
+use crate::phase_table::Phase;
 use crate::record_fault::RecordFault;
 use crate::record_input::input_of;
 use crate::record_making::state_of;
 use crate::record_reading::{is_of_other_version, record_in};
 use crate::record_waiting::waiting_by;
-use crate::server_config::ServerConfig;
 use crate::state::State;
-use crate::table::Phase;
 use sshpacket::Suite;
 use std::alloc::Global;
 
@@ -139,6 +139,6 @@ pub fn record_law<S: Suite>(one: &PausedEndpoint<S>, other: &PausedEndpoint<S>)
     // One that is open and has a history reads on, as `made` wants it.
     ensures reading { (setup : Setup) (h s : List ℕ) → PausedAfter setup one.now h s → paused_end one.now ≡ Open → IsReading one.now.input }
     // Both stand alike, and ask the same.
-    ensures end { (role : Side) (party : ConfigData) → IsSamePaused role party one.now other.now → paused_end other.now ≡ paused_end one.now }
-    ensures asks { (role : Side) (party : ConfigData) → IsSamePaused role party one.now other.now → asked_paused other.now ≡ asked_paused one.now }
+    ensures end { (role : Side) (config : ConfigData) → IsSamePaused role config one.now other.now → paused_end other.now ≡ paused_end one.now }
+    ensures asks { (role : Side) (config : ConfigData) → IsSamePaused role config one.now other.now → asked_paused other.now ≡ asked_paused one.now }
 {}

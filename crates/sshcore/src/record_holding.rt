@@ -7,7 +7,7 @@ ghost use Rattle.sshcore.specs.Paused.{FitsPaused, PausedData};
 ghost use Rattle.sshcore.specs.Record.{IsRecordOf, missing_by};
 ghost use Rattle.sshcore.specs.RecordHolding.{IsHolding};
 
-use crate::paused_endpoint::PausedEndpoint;
+use crate::asking_paused::PausedEndpoint;
 use crate::record_fault::RECORD_LIMIT;
 use crate::record_reading::waits_in;
 use crate::record_writing::put_waits;
@@ -44,8 +44,8 @@ impl<S: Suite> PausedEndpoint<S> {
         text: &[u8],
         piece: &[u8],
     ) -> Result<Option<Vec<u8>>, Memory>
-        ensures holds { IfOk result (λ o. IfSome o (λ new. (role : Side) (party : ConfigData) (suite : S) (p : PausedData S) → IsRecordOf text.now p
-            → FitsPaused S.meaning role party suite p → IsHolding S.meaning role party suite piece.now new.items p)) }
+        ensures holds { IfOk result (λ o. IfSome o (λ new. (role : Side) (config : ConfigData) (suite : S) (p : PausedData S) → IsRecordOf text.now p
+            → FitsPaused S.meaning role config suite p → IsHolding S.meaning role config suite piece.now new.items p)) }
         // Of a record none comes only where the piece has as many bytes as are missing.
         ensures none { result ≡ Ok None → (p : PausedData S) → IsRecordOf text.now p → missing_by p.input p.waiting ≤ length piece.now }
     {

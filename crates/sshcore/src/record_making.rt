@@ -17,17 +17,17 @@ ghost use Rattle.sshcore.specs.Record.{HasKeyNames, HasNames, HasUserText, IsMad
 ghost use Rattle.sshcore.specs.RecordView.{authentication_record, carried_record, exchange_record, lent_keys, lent_names, lent_user_key, record_data};
 ghost use Rattle.sshcore.specs.StateData.{state_data, user_key_data};
 
-use crate::algorithms::{Algorithms, Directions};
 use crate::config_parts::TRIES_LIMIT;
 use crate::end::End;
-use crate::kexinit::asks_in;
+use crate::kex_algorithms::{Algorithms, Directions};
+use crate::kex_init::asks_in;
+use crate::phase_table::Phase;
 use crate::record_fault::RecordFault;
 use crate::record_parts::{
     AuthenticationParts, CarriedParts, ExchangeParts, LentKeys, LentNames, LentUserKey, RecordParts,
 };
 use crate::session::UserKey;
-use crate::state::{Reached, State};
-use crate::table::Phase;
+use crate::state::{CompletedMethods, State};
 use sshpacket::{DIGEST_LIMIT, KeyParts, Keys, PACKET_LIMIT};
 use sshwire::{LINE_LIMIT, as_name};
 use std::alloc::Global;
@@ -224,7 +224,7 @@ fn exchange_made(
 struct AuthenticationMade {
     request: u32,
     allowance: Option<u32>,
-    reached: Reached,
+    completed: CompletedMethods,
 }
 
 /// What is known of authentication.
@@ -243,7 +243,7 @@ fn authentication_made(
     Ok(AuthenticationMade {
         request: authentication.request,
         allowance: authentication.allowance,
-        reached: Reached {
+        completed: CompletedMethods {
             user,
             service,
             password: authentication.password,
@@ -320,7 +320,7 @@ pub(crate) fn state_of(
         request: authentication.request,
         left: &[],
         confirmed: parts.confirmed,
-        reached: authentication.reached,
+        completed: authentication.completed,
         pending: carried.pending,
         own_version: carried.own_version,
         host_key: carried.host_key,

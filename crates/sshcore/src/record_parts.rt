@@ -4,7 +4,7 @@ ghost use Rattle.std.specs.Prelude.{◌≡◌};
 ghost use Rattle.sshcore.specs.RecordData.{held_in};
 ghost use Rattle.sshcore.specs.RecordView.{reader_record};
 
-use crate::table::Phase;
+use crate::phase_table::Phase;
 use sshneg::Side;
 use sshpacket::ShareForm;
 

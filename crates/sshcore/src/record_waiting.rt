@@ -11,12 +11,12 @@ ghost use Rattle.sshcore.specs.StateData.{state_data};
 ghost use Rattle.sshcore.specs.Unread.{IsAskedBy, IsIdle};
 ghost use Rattle.sshcore.specs.WaitingView.{waiting_of};
 
+use crate::asking_waiting::Waiting;
 use crate::config::Config;
 use crate::input::Input;
 use crate::record_fault::RecordFault;
 use crate::record_parts::WaitingParts;
 use crate::state::State;
-use crate::waiting::Waiting;
 use sshpacket::{PACKET_LIMIT, Suite};
 
 /// Whether it reads packets, and holds no byte of an unfinished one.

@@ -4,12 +4,12 @@ ghost use Rattle.std.specs.Prelude.{◌≡◌, ◌<◌, ◌^◌, ◌++◌, IfSom
 ghost use Rattle.sshcore.specs.RecordText.{Adds, FitsAuthentication, FitsCarried, FitsExchange, FitsKeys, FitsNames, FitsPacketRecord, FitsReader, FitsRecord, FitsSending, FitsUserKey, IsShort, authentication_text, bytes_text, carried_text, exchange_text, flag_text, form_number, front_text, keys_text, names_text, number_text, option_text, packet_text, phase_number, reader_text, record_text, role_number, sending_text, user_key_text, waits_text};
 ghost use Rattle.sshcore.specs.RecordView.{authentication_record, carried_record, exchange_record, lent_keys, lent_names, lent_user_key, packet_record, reader_record, record_data, sending_record};
 
+use crate::phase_table::Phase;
 use crate::record_fault::RECORD_VERSION;
 use crate::record_parts::{
     AuthenticationParts, CarriedParts, ExchangeParts, LentKeys, LentNames, LentUserKey,
     ReaderParts, RecordParts, SendingParts, WaitingParts,
 };
-use crate::table::Phase;
 use sshneg::Side;
 use sshpacket::ShareForm;
 use sshwire::{Memory, put_string, put_u32};

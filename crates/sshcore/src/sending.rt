@@ -2,7 +2,7 @@
 
 ghost use Rattle.std.specs.Prelude.{◌≡◌, ◌≤◌, ◌==◌, ◌∷◌, [], Bool, OnOk, false, length};
 ghost use Rattle.sshwire.specs.declared.limits.TheConstants.{PAYLOAD_LIMIT};
-ghost use Rattle.sshmsg.specs.Numbers.{kind};
+ghost use Rattle.sshmsg.specs.Numbers.{message_number};
 ghost use Rattle.sshmsg.specs.View.{message_data};
 ghost use Rattle.sshmsg.specs.Written.{written_message};
 ghost use Rattle.sshpacket.specs.KeysData.{KeysData};
@@ -31,7 +31,7 @@ impl State<'_> {
         requires open { end_data self.old.end ≡ Open }
         requires short { length (written_message (message_data message)) ≤ PAYLOAD_LIMIT }
         // NEWKEYS alone would change keys.
-        ensures gives { OnOk result ((kind (written_message (message_data message.entry)) == 21) ≡ false → (strict : Bool) (next : KeysData)
+        ensures gives { OnOk result ((message_number (written_message (message_data message.entry)) == 21) ≡ false → (strict : Bool) (next : KeysData)
             → Gives (S.meaning suite.now) (config_data config.now).seed strict next (state_data self.old) (state_data self.new) sent.old.items sent.new.items
             (goes (written_message (message_data message.entry) ∷ []))) }
         ensures counts { OnOk result (state_data self.new ≡ record (state_data self.old) { sending = with_packet (S.meaning suite.now) (written_message (message_data message.entry)) (state_data self.old).sending }) }

@@ -7,7 +7,7 @@ ghost use Rattle.sshcore.specs.declared.end.Agreed.{Agreed};
 
 use crate::end::Agreed;
 use crate::link::Link;
-use crate::state::Reached;
+use crate::state::CompletedMethods;
 use sshneg::Side;
 use sshpacket::Keys;
 use std::alloc::Global;
@@ -129,24 +129,28 @@ pub(crate) fn session_of(
     }
 }
 
-/// How the user was accepted, by what is reached and the key of the last signed request that was successful; a client
+/// How the user was accepted, by what is completed and the key of the last signed request that was successful; a client
 /// doesn't say.
-pub(crate) fn accepted_by(role: Side, reached: &Reached, key: Option<UserKey>) -> Option<Accepted>
+pub(crate) fn accepted_by(
+    role: Side,
+    completed: &CompletedMethods,
+    key: Option<UserKey>,
+) -> Option<Accepted>
     ensures client { role ≡ Client → result ≡ None }
-    ensures server { role ≡ Server → result ≡ Some (record { password = reached.now.password; key = if reached.now.publickey then key else None }) }
+    ensures server { role ≡ Server → result ≡ Some (record { password = completed.now.password; key = if completed.now.publickey then key else None }) }
 {
     match role {
         Side::Client => None,
         Side::Server => Some(Accepted {
-            password: reached.password,
-            key: key_if(reached.publickey, key),
+            password: completed.password,
+            key: key_if(completed.publickey, key),
         }),
     }
 }
 
-/// The key, where its method is reached.
-fn key_if(reached: bool, key: Option<UserKey>) -> Option<UserKey>
-    ensures { result ≡ (if reached then key else None) }
+/// The key, where its method is completed.
+fn key_if(completed: bool, key: Option<UserKey>) -> Option<UserKey>
+    ensures { result ≡ (if completed then key else None) }
 {
-    if reached { key } else { None }
+    if completed { key } else { None }
 }

@@ -14,21 +14,21 @@ ghost use Rattle.sshcore.specs.Phases.{past_kexinit};
 ghost use Rattle.sshcore.specs.Work.{asks_for_extensions};
 ghost use Rattle.sshcore.specs.EndData.{Open, end_data};
 
-use crate::algorithms::Algorithms;
 use crate::config::Config;
 use crate::config_parts::Attempt;
 use crate::end::End;
+use crate::kex_algorithms::Algorithms;
 use crate::payloads::payload_of;
+use crate::phase_table::Phase;
 use crate::session::UserKey;
-use crate::table::Phase;
 use sshmsg::Message;
 use sshpacket::{Keys, ShareForm, Suite, write_clear, write_next};
 use sshwire::Memory;
 use std::alloc::Global;
 
-/// Which of the methods that can be required are reached, and for whom.
+/// Which of the methods that can be required are completed, and for whom.
 #[derive(Drop)]
-pub(crate) struct Reached {
+pub(crate) struct CompletedMethods {
     /// The user of the last successful request.
     pub(crate) user: String,
     /// The service of the last successful request.
@@ -68,8 +68,8 @@ pub(crate) struct State<'a> {
     pub(crate) left: &'a [Attempt],
     /// Whether the query of the first of them was answered by PK_OK.
     pub(crate) confirmed: bool,
-    /// What the requests that a server received have reached.
-    pub(crate) reached: Reached,
+    /// What the requests that a server received have completed.
+    pub(crate) completed: CompletedMethods,
     /// The keys of what is received, from the exchange up to NEWKEYS.
     pub(crate) pending: Option<Keys>,
     /// The text of the own version line, from the exchange on.
@@ -121,7 +121,7 @@ impl<'a> State<'a> {
             request: 1,
             left: config.plan(),
             confirmed: false,
-            reached: Reached {
+            completed: CompletedMethods {
                 user: String::new(alloc),
                 service: String::new(alloc),
                 password: false,
@@ -159,7 +159,7 @@ impl<'a> State<'a> {
             request: self.request,
             left,
             confirmed,
-            reached: self.reached,
+            completed: self.completed,
             pending: self.pending,
             own_version: self.own_version,
             host_key: self.host_key,

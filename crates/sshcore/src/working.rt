@@ -2,11 +2,11 @@
 
 ghost use Rattle.std.specs.Prelude.{◌≡◌, ◌≤◌, OnOk, false, length, true};
 ghost use Rattle.sshmsg.specs.Messages.{Spells};
-ghost use Rattle.sshmsg.specs.Numbers.{kind, number_of};
+ghost use Rattle.sshmsg.specs.Numbers.{message_number, number_of};
 ghost use Rattle.sshmsg.specs.View.{message_data};
 ghost use Rattle.sshpacket.specs.declared.limits.TheConstants.{PACKET_LIMIT};
 ghost use Rattle.sshcore.specs.declared.end.Fault.TheVariants as fault;
-ghost use Rattle.sshcore.specs.declared.table.Line.TheVariants as line;
+ghost use Rattle.sshcore.specs.declared.phase_table.Disposition.TheVariants as disposition;
 ghost use Rattle.sshcore.specs.Brings.{Works};
 ghost use Rattle.sshcore.specs.EndpointConfig.{role_of, setup_of};
 ghost use Rattle.sshcore.specs.EndData.{Failed, Open, by_input, end_data};
@@ -14,16 +14,16 @@ ghost use Rattle.sshcore.specs.Exchanged.{HasForm};
 ghost use Rattle.sshcore.specs.StateData.{state_data};
 ghost use Rattle.sshcore.specs.Authenticating.{IsOfRequests};
 ghost use Rattle.sshcore.specs.Plan.{is_waiting};
-ghost use Rattle.sshcore.specs.Table.{is_of_method, line_by};
+ghost use Rattle.sshcore.specs.Table.{disposition_by, is_of_method};
 ghost use Rattle.sshcore.specs.Work.{work};
 
 use crate::config::Config;
 use crate::decisions::Decisions;
 use crate::end::End;
-use crate::exchange::KexReply;
+use crate::kex_exchange::KexReply;
 use crate::lent::set;
-use crate::notice::tell_notice;
-use crate::packet_lines::kind;
+use crate::notice::give_notice;
+use crate::packet_dispositions::message_number;
 use crate::state::State;
 use sshmsg::Message;
 use sshpacket::Suite;
@@ -42,7 +42,7 @@ impl State<'_> {
     ) -> Result<(), Memory>
         requires open { end_data self.old.end ≡ Open }
         requires short { length payload.now ≤ PACKET_LIMIT }
-        requires reads { line_by (role_of config.now) self.old.phase self.old.strict self.old.guess (is_waiting (state_data self.old).known.left) (kind payload.now) ≡ line.Reads }
+        requires reads { disposition_by (role_of config.now) self.old.phase self.old.strict self.old.guess (is_waiting (state_data self.old).known.left) (message_number payload.now) ≡ disposition.Reads }
         requires spelled { Spells self.old.shares (message_data message.now) payload.now }
         ensures works { OnOk result (HasForm (S.meaning suite.now) (state_data self.old)
             → Works (setup_of (S.meaning suite.now) (D.policy decisions.now) config.now) (state_data self.old) (state_data self.new) payload.now sent.old.items sent.new.items
@@ -51,7 +51,7 @@ impl State<'_> {
     {
         sshmsg::messages_law();
         sshmsg::numbers_law();
-        tell_notice(decisions, message);
+        give_notice(decisions, message);
         match message {
             Message::Disconnect { reason, .. } => {
                 set(&mut self.end, End::Closed(*reason));
@@ -99,7 +99,7 @@ impl State<'_> {
     ) -> Result<(), Memory>
         requires open { end_data self.old.end ≡ Open }
         requires short { length payload.now ≤ PACKET_LIMIT }
-        requires reads { line_by (role_of config.now) self.old.phase self.old.strict self.old.guess (is_waiting (state_data self.old).known.left) (kind payload.now) ≡ line.Reads }
+        requires reads { disposition_by (role_of config.now) self.old.phase self.old.strict self.old.guess (is_waiting (state_data self.old).known.left) (message_number payload.now) ≡ disposition.Reads }
         requires spelled { Spells self.old.shares (message_data message.now) payload.now }
         requires exchange { is_of_method (number_of (message_data message.now)) ≡ true }
         ensures works { OnOk result (HasForm (S.meaning suite.now) (state_data self.old)
@@ -157,7 +157,7 @@ impl State<'_> {
     ) -> Result<(), Memory>
         requires open { end_data self.old.end ≡ Open }
         requires short { length payload.now ≤ PACKET_LIMIT }
-        requires reads { line_by (role_of config.now) self.old.phase self.old.strict self.old.guess (is_waiting (state_data self.old).known.left) (kind payload.now) ≡ line.Reads }
+        requires reads { disposition_by (role_of config.now) self.old.phase self.old.strict self.old.guess (is_waiting (state_data self.old).known.left) (message_number payload.now) ≡ disposition.Reads }
         requires spelled { Spells self.old.shares (message_data message.now) payload.now }
         requires auth { IsOfRequests (number_of (message_data message.now)) }
         ensures works { OnOk result (HasForm (S.meaning suite.now) (state_data self.old)

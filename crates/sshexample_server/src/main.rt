@@ -6,7 +6,7 @@
 
 use anyhow::{Context, bail};
 use sshcore::{Credential, Draws, End, Endpoint, PeerReading, ServerConfig};
-use sshsuites::{LabDecisions, LabSuite, lab_server_parts};
+use sshlabsuites::{LabDecisions, LabSuite, lab_server_parts};
 use std::alloc::Global;
 use std::io;
 use std::random::RandomSource;

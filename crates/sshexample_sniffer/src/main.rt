@@ -3,10 +3,10 @@
 #![tactic(auto)]
 
 use anyhow::{Context, bail};
+use sshlabsuites::KemSuite;
 use sshmsg::{KexInit, Message, SSH_MSG_KEXINIT, read};
 use sshneg::{Chosen, Side, choose, strict_of};
 use sshpacket::{PacketReader, PacketStep};
-use sshsuites::KemSuite;
 use sshwire::{LineForm, NameList, OTHER_LINE_LIMIT, PeerLineReader, PeerStep, ReadBy};
 use std::alloc::Global;
 use std::io;

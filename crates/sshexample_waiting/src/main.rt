@@ -12,7 +12,7 @@
 
 use anyhow::bail;
 use sshcore::{AskingEndpoint, End, Fed, PeerReading, Proof, Question, ServerConfig, Silent};
-use sshsuites::{LabSuite, lab_server_parts};
+use sshlabsuites::{LabSuite, lab_server_parts};
 use std::alloc::{AllocError, Global};
 use std::{io, mem};
 

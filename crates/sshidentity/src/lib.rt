@@ -1,13 +1,18 @@
-//! Private keys as `ssh-keygen` writes them: in OpenSSH's form (openssh-key-v1), of ssh-ed25519, without a passphrase.
+//! Private keys as `ssh-keygen` writes them: in OpenSSH's form (openssh-key-v1), of ssh-ed25519, without a passphrase; and the files
+//! of keys and passwords that a program's options name.
 #![tactic(auto)]
 
 mod fault;
+mod file_fault;
+mod files;
 
 ghost use Rattle.std.specs.Prelude.{◌≡◌, IfOk, length};
 
 use base64::DecodeAllocError;
 use base64::engine::general_purpose::STANDARD;
 pub use fault::IdentityFault;
+pub use file_fault::{FileFault, KeyFault};
+pub use files::{bytes_of, first_line, is_private, private_key, text_in};
 use sshpacket::Suite;
 use sshsuite::DeployedSuite;
 use sshwire::{Memory, Reader, WireFault};

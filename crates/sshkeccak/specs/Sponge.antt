@@ -58,13 +58,15 @@ sha3_256 input = take 32 (bytes_of (sponge 17 0x06 input))
 unfoldable pub sha3_512 : List ℕ → List ℕ
 sha3_512 input = take 64 (bytes_of (sponge 9 0x06 input))
 
--- the first 32, 96 and 128 bytes of SHAKE256: capacity 512, suffix 1111 (section 6.2)
+-- the first 32 bytes of SHAKE256: capacity 512, suffix 1111 (FIPS 202 section 6.2)
 unfoldable pub shake256_32 : List ℕ → List ℕ
 shake256_32 input = take 32 (bytes_of (sponge 17 0x1f input))
 
+-- the first 96 bytes of SHAKE256 (FIPS 202 section 6.2)
 unfoldable pub shake256_96 : List ℕ → List ℕ
 shake256_96 input = take 96 (bytes_of (sponge 17 0x1f input))
 
+-- the first 128 bytes of SHAKE256 (FIPS 202 section 6.2)
 unfoldable pub shake256_128 : List ℕ → List ℕ
 shake256_128 input = take 128 (bytes_of (sponge 17 0x1f input))
 

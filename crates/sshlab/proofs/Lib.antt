@@ -1,4 +1,3 @@
-pub mod OwnedLemmas
 pub mod StreamLemmas
 pub mod ScenarioFieldLemmas
 pub mod StepLemmas

@@ -11,8 +11,8 @@ use Rattle.sshworld.specs.Conversed.{IsNew}
 use Rattle.sshworld.specs.CourseReceived.{IsCourseReceived}
 use Rattle.sshworld.specs.Headline.{Headline}
 use Rattle.sshworld.specs.Outcome.{BothEnds, outcome}
-use Rattle.sshworld.specs.Understood.{AreUnderstood}
-use Rattle.sshworld.specs.WorldCourse.{AreUnderstoodIn, KeepsCourse, KeepsHeadline}
+use Rattle.sshworld.specs.Compatible.{AreCompatible}
+use Rattle.sshworld.specs.WorldCourse.{AreCompatibleIn, KeepsCourse, KeepsHeadline}
 use Rattle.sshworld.specs.Wordings.{wording_of}
 use Rattle.sshworld.specs.Worlds.{Complete, HadMemory, WorldData}
 use Rattle.sshlab.specs.declared.scenario_line.Step.{Step}
@@ -37,15 +37,15 @@ both_predicted ends client server complete h c =
 -- what is known of a world of these configs and rules
 module _ {S D : Type 0} (m : SuiteData) (policy : D → DecisionsData) (client : ClientData) (server : ServerData) (rules : D) (w : WorldData S D)
     (of_client : w.client_config ≡ client) (of_server : w.server_config ≡ server) (of_rules : w.decisions ≡ rules) where
-  pub course_of : AreUnderstood m (policy rules) client server → HadMemory w → KeepsCourse (λ suite. m) policy w
+  pub course_of : AreCompatible m (policy rules) client server → HadMemory w → KeepsCourse (λ suite. m) policy w
       → IsCourseReceived m (policy rules) client server (wording_of m (policy rules) client server) w.client w.server
   course_of = rw (sym of_client, sym of_server, sym of_rules) (λ u had keeps. keeps u had)
 
-  pub headline_of : AreUnderstood m (policy rules) client server → HadMemory w → KeepsHeadline (λ suite. m) policy w
+  pub headline_of : AreCompatible m (policy rules) client server → HadMemory w → KeepsHeadline (λ suite. m) policy w
       → Headline (outcome m (policy rules) client server) w.client.end w.server.end (Complete w)
   headline_of = rw (sym of_client, sym of_server, sym of_rules) (λ u had keeps. keeps u had)
 
-  pub settled_of : (steps read : List Step) (new : WorldData S D) → read ≡ steps → AreUnderstood m (policy rules) client server → HadMemory w
-      → (AreUnderstoodIn (λ suite. m) policy w → HadMemory w → EndsSettling (most_requests w.client_config.plan + 4) read → Complete new)
+  pub settled_of : (steps read : List Step) (new : WorldData S D) → read ≡ steps → AreCompatible m (policy rules) client server → HadMemory w
+      → (AreCompatibleIn (λ suite. m) policy w → HadMemory w → EndsSettling (most_requests w.client_config.plan + 4) read → Complete new)
       → EndsSettling (most_requests client.plan + 4) steps → Complete new
   settled_of steps read new same = rw (sym of_client, sym of_server, sym of_rules, sym same) (λ u had settled. settled u had)

@@ -10,8 +10,8 @@ use Rattle.sshneg.specs.declared.side.Side.{Side}
 use Rattle.sshneg.specs.declared.side.Side.TheVariants.{Client, Server}
 use Rattle.sshlab.specs.declared.scenario_line.Step.{Step}
 use Rattle.sshlab.specs.declared.scenario_settings.Setting.{Setting}
-use Rattle.sshsuites.specs.LabParties.{lab_client, lab_server}
-use Rattle.sshsuites.specs.LabDecisionsData.{LabDecisionsData}
+use Rattle.sshlabsuites.specs.LabConfigs.{lab_client, lab_server}
+use Rattle.sshlabsuites.specs.LabDecisionsData.{LabDecisionsData}
 use Rattle.sshlab.specs.ScenarioDrafts.{DraftData, after_line, after_statement, drafted, no_lines}
 use Rattle.sshlab.specs.ScenarioSettings.{setting_in}
 use Rattle.sshlab.specs.ScenarioText.{settings, statement_in, statements_in}

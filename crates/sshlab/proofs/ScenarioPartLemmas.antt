@@ -6,7 +6,7 @@ use Rattle.std.specs.List.{cons_option, filter_map}
 use Rattle.std.proofs.lemmas.List.{append-nil, append_assoc}
 use Rattle.sshcore.specs.ConfigParts.{ClientData, HostKeyData, ServerData}
 use Rattle.sshneg.specs.declared.side.Side.TheVariants.{Client, Server}
-use Rattle.sshsuites.specs.LabDecisionsData.{AllowedData, LabDecisionsData, proof_by}
+use Rattle.sshlabsuites.specs.LabDecisionsData.{AllowedData, LabDecisionsData, proof_by}
 use Rattle.sshlab.specs.ScenarioDrafts.{DraftData, drafted, no_lines}
 use Rattle.sshlab.specs.ScenarioParts.{allowance_in, attempt_in, banner_in, can_be_proved, client_of_lines, denied_in, distrusted_in, guess_in, host_key_algorithms_in, host_key_in, methods_in, required_in, notice_in, rules_of_lines, server_of_lines, services_in, set_or, side_of_lines, some_or, step_in, steps_of_lines, tries_in}
 use Rattle.sshlab.specs.Scenarios.{Allows, Denies, Distrusts, Does, Holds, Notes, OfClient, OfServer, OfSide, SetBanner, SetGuess, SetHostKeys, SetMethods, SetRequired, SetServices, SetTries, StatementData, Tries}

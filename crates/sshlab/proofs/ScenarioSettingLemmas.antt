@@ -20,7 +20,7 @@ use Rattle.sshlab.specs.ScenarioParts.{can_be_proved}
 use Rattle.sshlab.specs.ScenarioSettings.{setting_in}
 use Rattle.sshlab.specs.ScenarioText.{CanFollow, statement_in}
 use Rattle.sshlab.specs.Scenarios.{StatementData, statement}
-use Rattle.sshsuites.proofs.DecisionLaws.{any_is}
+use Rattle.sshlabsuites.proofs.DecisionLaws.{any_is}
 
 abbrev is_made : Side × Setting → Side × Setting → Bool
 is_made one other = sameb side.the_type one.0 other.0 && sameb setting.the_type one.1 other.1

@@ -9,7 +9,7 @@ use Rattle.sshcore.specs.EndpointParts.{DecisionsData}
 use Rattle.sshworld.specs.Offered.{most_requests}
 use Rattle.sshworld.specs.declared.side.Delivery.{Delivery}
 use Rattle.sshworld.specs.Deliveries.{Delivered}
-use Rattle.sshworld.specs.WorldCourse.{AreUnderstoodIn, WorldHolds}
+use Rattle.sshworld.specs.WorldCourse.{AreCompatibleIn, WorldHolds}
 use Rattle.sshworld.specs.Worlds.{Complete, HadMemory, IsSameSetup, WorldData, waiting_for}
 use Rattle.sshlab.specs.declared.scenario_line.Step.{Step}
 use Rattle.sshlab.specs.declared.scenario_line.Step.TheVariants.{Deliver}
@@ -61,17 +61,17 @@ module _ {S D : Type 0} (meaning : S → SuiteData) (policy : D → DecisionsDat
   steps_into (step ∷ steps) (suc i) default old mid new lt (next, first, later) stop = inr (next, first, steps_into steps i default next mid new (omega arith) later stop)
 
   -- Two ends that understood each other still do.
-  understood_on : (old new : WorldData S D) → IsSameSetup old new → AreUnderstoodIn meaning policy old → AreUnderstoodIn meaning policy new
-  understood_on old new same u =
+  compatible_on : (old new : WorldData S D) → IsSameSetup old new → AreCompatibleIn meaning policy old → AreCompatibleIn meaning policy new
+  compatible_on old new same u =
       rw (same.same_client_config, same.same_server_config, same.same_suite, same.same_decisions) u
 
   -- one step more, and it may settle all
   pub settled_more : (steps : List Step) (i : ℕ) (default : Step) (old mid new : WorldData S D) → i < length steps → IsSameSetup old mid → (HadMemory old → HadMemory mid)
-      → (AreUnderstoodIn meaning policy mid → HadMemory mid → SettlesFor (most_requests mid.client_config.plan + 4) (get_or steps i default) → Complete new)
-      → AreUnderstoodIn meaning policy old → HadMemory old → EndsSettling (most_requests old.client_config.plan + 4) (take (i + 1) steps) → Complete new
+      → (AreCompatibleIn meaning policy mid → HadMemory mid → SettlesFor (most_requests mid.client_config.plan + 4) (get_or steps i default) → Complete new)
+      → AreCompatibleIn meaning policy old → HadMemory old → EndsSettling (most_requests old.client_config.plan + 4) (take (i + 1) steps) → Complete new
   settled_more steps i default old mid new lt same still settled u had ends =
       let few : SettlesFor (most_requests old.client_config.plan + 4) (get_or steps i default) = settles_at steps i default _ lt ends in
-      settled (understood_on old mid same u) (still had)
+      settled (compatible_on old mid same u) (still had)
       (subst (λ (config : ClientData). SettlesFor (most_requests config.plan + 4) (get_or steps i default)) (sym same.same_client_config) few)
 
 -- what changes no config, suite or decisions twice, changes none

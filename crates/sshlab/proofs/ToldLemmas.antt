@@ -9,9 +9,9 @@ use Rattle.sshcore.specs.ConfigParts.{ClientData, ServerData}
 use Rattle.sshworld.specs.Offered.{most_requests}
 use Rattle.sshworld.specs.Outcome.{outcome}
 use Rattle.sshworld.specs.Worlds.{Complete, WorldData}
-use Rattle.sshsuites.specs.Lab.{lab}
-use Rattle.sshsuites.specs.LabDecisionsData.{LabDecisionsData, lab_policy}
-use Rattle.sshsuites.specs.declared.lab_suite.LabSuite.{LabSuite}
+use Rattle.sshlabsuites.specs.Lab.{lab}
+use Rattle.sshlabsuites.specs.LabDecisionsData.{LabDecisionsData, lab_policy}
+use Rattle.sshlabsuites.specs.declared.lab_suite.LabSuite.{LabSuite}
 use Rattle.sshlab.specs.declared.command_fault.CommandFault.{CommandFault}
 use Rattle.sshlab.specs.declared.command_fault.CommandFault.TheVariants as command
 use Rattle.sshlab.specs.declared.scenario.ScenarioFault.TheVariants as scenario

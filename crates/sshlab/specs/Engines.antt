@@ -21,7 +21,8 @@ pub record IsRecording (bytes : List ℕ) : Type 0 where
   pub within : length bytes ≤ TEXT_LIMIT
   pub recorded : list_all is_recorded (lines bytes) ≡ true
 
--- what the bytes of the input are where it is judged so; nothing where a read failed or memory ran out
+-- What the bytes of the input are where it is judged so. A recording of no more bytes than the limit, where the engine ends well or a write
+-- failed; else the first bad line has this number, or there are more bytes. Nothing is said where a read failed or memory ran out.
 abbrev pub Judges : {T : Type 0} → List ℕ → Result T ToolFault → Type 0
 Judges bytes (Ok done) = IsRecording bytes
 Judges bytes (Err fault.Write) = IsRecording bytes

@@ -16,7 +16,8 @@ abbrev pub sent_by : Side → List ℕ → Option (Side × List ℕ)
 sent_by side [] = None
 sent_by side (digit ∷ digits) = option_map (λ bytes. (side, bytes)) (result_ok (decode_of (digit ∷ digits)))
 
--- what a line says that is `c HEX`, sent by the client, or `s HEX`, sent by the server
+-- What a line says: `c HEX` are bytes that the client sent, `s HEX` those that the server sent, at least one byte, each as two hexadecimal
+-- digits. Any other line says nothing.
 unfoldable pub piece_of : List ℕ → Option (Side × List ℕ)
 piece_of line =
     if bytes_eq (take 2 line) (codes "c ") then sent_by Client (drop 2 line)
@@ -26,6 +27,7 @@ piece_of line =
 abbrev pub is_recorded : List ℕ → Bool
 is_recorded line = (length line == 0) || is_some (piece_of line)
 
+-- the bytes that a line says this side sent; none, if the line is empty or of the other side
 abbrev pub of_side : Side → Option (Side × List ℕ) → List ℕ
 of_side Client (Some (Client, bytes)) = bytes
 of_side Server (Some (Server, bytes)) = bytes

@@ -6,7 +6,8 @@ use Rattle.sshneg.specs.Fields.{AlgorithmsData}
 use Rattle.sshcore.specs.EndData.{AgreedData, Authenticated, Closed, Disconnected, EndData, Failed, Open}
 use Rattle.sshcore.specs.Printed.{fault_text}
 
--- how a side stands, or how it is to end
+-- how a side is, as `open`, `authenticated USER SERVICE`, `failed FAULT`, `closed REASON` or `disconnected REASON`; the last is the end of
+-- no side of a scenario
 abbrev pub end_text : EndData → List ℕ
 end_text Open = codes "open"
 end_text (Authenticated agreed) = codes "authenticated " ++ (agreed.user ++ (codes " " ++ agreed.service))
@@ -18,6 +19,7 @@ end_text (Disconnected reason) = codes "disconnected " ++ decimal reason
 abbrev pub line : List ℕ → List ℕ → List ℕ
 line word text = word ++ (32 ∷ (text ++ (10 ∷ [])))
 
+-- a flag as the word `yes` or `no`
 abbrev pub yes_or_no : Bool → List ℕ
 yes_or_no flag = if flag then codes "yes" else codes "no"
 
@@ -52,7 +54,7 @@ agreement_text session (Authenticated agreed) server = agreed_text session agree
 agreement_text session client (Authenticated agreed) = agreed_text session agreed
 agreement_text session client server = []
 
--- What is printed of the client's end and of the server's.
+-- what is printed of two ends: the client's line, the server's, whether the world is complete, and what was agreed
 unfoldable pub report_text : EndData → EndData → Option Bool → Bool → List ℕ
 report_text client server complete session =
     line (codes "client") (end_text client) ++ (line (codes "server") (end_text server)

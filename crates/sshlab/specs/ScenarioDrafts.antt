@@ -6,8 +6,8 @@ use Rattle.sshneg.specs.declared.side.Side.{Side}
 use Rattle.sshneg.specs.declared.side.Side.TheVariants.{Client, Server}
 use Rattle.sshlab.specs.declared.scenario_line.Step.{Step}
 use Rattle.sshlab.specs.declared.scenario_settings.Setting.{Setting}
-use Rattle.sshsuites.specs.LabParties.{lab_client, lab_server}
-use Rattle.sshsuites.specs.LabDecisionsData.{LabDecisionsData, proof_by}
+use Rattle.sshlabsuites.specs.LabConfigs.{lab_client, lab_server}
+use Rattle.sshlabsuites.specs.LabDecisionsData.{LabDecisionsData, proof_by}
 use Rattle.sshlab.specs.ScenarioParts.{can_be_proved}
 use Rattle.sshlab.specs.ScenarioSettings.{setting_in, with_client, with_server, with_side}
 use Rattle.sshlab.specs.ScenarioText.{statement_in}
@@ -57,6 +57,7 @@ abbrev pub noting : DraftData → Option (Side × Setting) → DraftData
 noting d None = d
 noting d (Some setting) = record d { settings = d.settings ++ setting ∷ [] }
 
+-- a draft after a line with this statement
 abbrev pub after_statement : DraftData → Option StatementData → DraftData
 after_statement d None = d
 after_statement d (Some stated) = after (noting d (setting_in stated)) stated

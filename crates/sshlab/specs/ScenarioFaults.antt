@@ -27,7 +27,7 @@ IsCause ls (fault.Client code) = IsClientCause ls code
 IsCause ls (fault.Server code) = IsServerCause ls code
 IsCause ls fault.Memory = Unit {0}
 
--- the same of reading the lines alone
+-- why reading the lines alone is refused: a first bad line; running out of memory has no cause
 abbrev pub IsLineCause : List (List ℕ) → ScenarioFault → Type 0
 IsLineCause ls (fault.Line k) = IsFirstBad k ls
 IsLineCause ls (fault.Client code) = ⊥

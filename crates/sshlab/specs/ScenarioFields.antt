@@ -25,9 +25,11 @@ bytes_of field = if bytes_eq field (codes "-") then Some [] else result_ok (deco
 unfoldable pub list_of : List ℕ → List (List ℕ)
 list_of field = if bytes_eq field (codes "-") then [] else parts 44 field
 
+-- the field `yes` or `no` as a flag; no other field is one
 unfoldable pub flag_of : List ℕ → Option Bool
 flag_of field = if bytes_eq field (codes "yes") then Some true else if bytes_eq field (codes "no") then Some false else None
 
+-- the field `client` or `server` as a side; no other field is one
 unfoldable pub side_of : List ℕ → Option Side
 side_of field = if bytes_eq field (codes "client") then Some Client else if bytes_eq field (codes "server") then Some Server else None
 

@@ -8,6 +8,7 @@ use Rattle.sshlab.specs.declared.scenario_settings.Setting.{Setting}
 use Rattle.sshlab.specs.declared.scenario_settings.Setting.TheVariants as setting
 use Rattle.sshlab.specs.Scenarios.{ClientSettingData, OfClient, OfServer, OfSide, ServerSettingData, SetBanner, SetCipherToClient, SetCipherToServer, SetCookie, SetGuess, SetHostKeys, SetKex, SetMacToClient, SetMacToServer, SetMethods, SetRandom, SetRequired, SetSeed, SetServices, SetStrict, SetTries, SetVersion, SideSettingData, StatementData}
 
+-- the name of a setting that both sides have
 abbrev pub side_setting : SideSettingData → Setting
 side_setting (SetVersion text) = setting.Version
 side_setting (SetKex names) = setting.KexAlgorithms
@@ -20,10 +21,12 @@ side_setting (SetCookie bytes) = setting.Cookie
 side_setting (SetRandom bytes) = setting.ExchangeRandom
 side_setting (SetSeed bytes) = setting.PaddingSeed
 
+-- the name of a setting of a client
 abbrev pub client_setting : ClientSettingData → Setting
 client_setting (SetHostKeys names) = setting.HostKeyAlgorithms
 client_setting (SetGuess guess) = setting.Guess
 
+-- the name of a setting of a server
 abbrev pub server_setting : ServerSettingData → Setting
 server_setting (SetServices names) = setting.Services
 server_setting (SetMethods names) = setting.Methods
@@ -51,10 +54,12 @@ with_side side (SetCookie bytes) = record side { cookie = bytes }
 with_side side (SetRandom bytes) = record side { random = bytes }
 with_side side (SetSeed bytes) = record side { seed = bytes }
 
+-- the parts of a client with a setting
 abbrev pub with_client : ClientData → ClientSettingData → ClientData
 with_client client (SetHostKeys names) = record client { host_key_algorithms = names }
 with_client client (SetGuess guess) = record client { guess = guess }
 
+-- the parts of a server with a setting
 abbrev pub with_server : ServerData → ServerSettingData → ServerData
 with_server server (SetServices names) = record server { services = names }
 with_server server (SetMethods names) = record server { methods = names }

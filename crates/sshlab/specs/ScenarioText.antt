@@ -8,6 +8,7 @@ use Rattle.sshlab.specs.declared.scenario_settings.Setting.{Setting}
 use Rattle.sshlab.specs.ScenarioSettings.{setting_in}
 use Rattle.sshlab.specs.Scenarios.{StatementData, statement}
 
+-- what a line says, where it is neither empty nor unreadable
 abbrev pub statement_in : List ℕ → Option StatementData
 statement_in line = option_flatten (statement line)
 

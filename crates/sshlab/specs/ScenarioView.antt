@@ -17,6 +17,7 @@ use Rattle.sshlab.specs.Scenarios.{Allows, ClientSettingData, Denies, Distrusts,
 abbrev pub texts : List (Bor (List ℕ)) → List (List ℕ)
 texts fields = map (λ field. field.now) fields
 
+-- the twin of a setting that both sides have
 abbrev pub side_setting_data : SideSetting → SideSettingData
 side_setting_data (side.Version text) = SetVersion (string_bytes text)
 side_setting_data (side.KexAlgorithms names) = SetKex (map string_bytes names.items)
@@ -29,10 +30,12 @@ side_setting_data (side.Cookie bytes) = SetCookie bytes.items
 side_setting_data (side.ExchangeRandom bytes) = SetRandom bytes.items
 side_setting_data (side.PaddingSeed bytes) = SetSeed bytes.items
 
+-- the twin of a setting of a client
 abbrev pub client_setting_data : ClientSetting → ClientSettingData
 client_setting_data (client.HostKeyAlgorithms names) = SetHostKeys (map string_bytes names.items)
 client_setting_data (client.Guess guess) = SetGuess guess
 
+-- the twin of a setting of a server
 abbrev pub server_setting_data : ServerSetting → ServerSettingData
 server_setting_data (server.Services names) = SetServices (map string_bytes names.items)
 server_setting_data (server.Methods names) = SetMethods (map string_bytes names.items)
@@ -40,6 +43,7 @@ server_setting_data (server.Required names) = SetRequired (map string_bytes name
 server_setting_data (server.Tries tries) = SetTries tries
 server_setting_data (server.Banner text) = SetBanner text.items
 
+-- the twin of a statement
 abbrev pub statement_data : Statement → StatementData
 statement_data (statement.Either side setting) = OfSide side (side_setting_data setting)
 statement_data (statement.Client setting) = OfClient (client_setting_data setting)

@@ -114,7 +114,7 @@ abbrev pub delivery : Option Side → Option ℕ → Option Step
 delivery (Some to) (Some count) = Some (Deliver (record { to = to; count = count }))
 delivery _ _ = None
 
--- at most 1000 rounds
+-- a number of rounds, at most 1000
 abbrev pub rounds : Option ℕ → Option Step
 rounds (Some n) = if nat_le n 1000 then Some (Settle n) else None
 rounds None = None
@@ -150,6 +150,7 @@ statement_by fields =
     else if has_form fields (codes "deny") 2 then option_map Denies (number_of (field fields 1))
     else option_map Does (step fields)
 
+-- a byte that a line may have: from 32 to 126
 abbrev pub is_line_byte : ℕ → Bool
 is_line_byte b = nat_le 32 b && nat_le b 126
 

@@ -12,6 +12,7 @@ use Rattle.sshlab.specs.declared.request.Request.{Request}
 use Rattle.sshlab.specs.declared.request.Request.TheVariants as asks
 use Rattle.sshlab.specs.declared.tool_fault.ToolFault.TheVariants as fault
 
+-- the exit status of a failure of the program
 abbrev pub status_of : CommandFault → ℕ
 status_of command.Words = 2
 status_of command.Version = 2

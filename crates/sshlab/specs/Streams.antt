@@ -4,7 +4,7 @@ use Rattle.std.specs.Prelude.{ℕ, Bool, List, false, not, take, ◌==◌, ◌&&
 use Rattle.std.specs.Io.KnownBytes.{Appends}
 use Rattle.sshlab.specs.declared.streams.Broken.{Broken}
 
--- it took no byte of some
+-- a write took no byte of some
 abbrev pub takes_none : Result ℕ Broken → ℕ → Bool
 takes_none (Ok n) len = n == 0 && not (len == 0)
 takes_none (Err e) len = false

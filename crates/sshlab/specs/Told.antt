@@ -6,9 +6,9 @@ use Rattle.sshcore.specs.ConfigParts.{ClientData, ServerData}
 use Rattle.sshworld.specs.Offered.{most_requests}
 use Rattle.sshworld.specs.Outcome.{BothEnds, outcome}
 use Rattle.sshworld.specs.Worlds.{Complete, WorldData}
-use Rattle.sshsuites.specs.Lab.{lab}
-use Rattle.sshsuites.specs.LabDecisionsData.{LabDecisionsData, lab_policy}
-use Rattle.sshsuites.specs.declared.lab_suite.LabSuite.{LabSuite}
+use Rattle.sshlabsuites.specs.Lab.{lab}
+use Rattle.sshlabsuites.specs.LabDecisionsData.{LabDecisionsData, lab_policy}
+use Rattle.sshlabsuites.specs.declared.lab_suite.LabSuite.{LabSuite}
 use Rattle.sshlab.specs.declared.command_fault.CommandFault.{CommandFault}
 use Rattle.sshlab.specs.declared.command_fault.CommandFault.TheVariants as command
 use Rattle.sshlab.specs.declared.scenario_line.Step.{Step}
@@ -56,7 +56,7 @@ pub record IsToldOfInput (Tells : List ℕ → List ℕ → ℕ → Type 0) (inp
   pub read : IfSome input (λ bytes. text ≡ bytes)
   pub tells : Tells text told status
 
--- all that is told was written
+-- known bytes of the output grew by all that is told
 pub record WritesAll (Tells : List ℕ → List ℕ → ℕ → Type 0) (input old new : Option (List ℕ)) (status : ℕ) : Type 0 where
   pub told : List ℕ
   pub of_input : IsToldOfInput Tells input told status
@@ -82,7 +82,7 @@ IsAnswered (asks.Predict session) input old new result = Writes (PredictTells se
 IsAnswered (asks.Run session) input old new result = Writes (RunTells session) input old new result
 IsAnswered request input old new result = Unit {0}
 
--- The same by the exit status: at 0 and 1 all that is told was written, and a prefix of it where a write failed.
+-- With or without the session identifier: at exit status 0 and 1 all that is told was written, and a prefix of it where a write failed.
 pub record Prints (Tells : Bool → List ℕ → List ℕ → ℕ → Type 0) (input old new : Option (List ℕ)) (broken : Bool) (status : ℕ) : Type 0 where
   pub session : Bool
   pub whole : status ≤ 1 → WritesAll (Tells session) input old new status

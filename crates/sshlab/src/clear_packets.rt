@@ -2,12 +2,12 @@
 
 ghost use Rattle.std.specs.Prelude.{◌≤◌, IfOk, IfSome, length};
 
-use crate::owned::beside;
 use crate::recorded_stream::{ClearPacket, ClearPackets, Stop, StreamEnd, StreamFault};
+use sshlabsuites::LabSuite;
 use sshmsg::{MsgFault, SSH_MSG_KEXINIT, SSH_MSG_NEWKEYS, read};
 use sshpacket::{PacketReader, PacketStep};
-use sshsuites::LabSuite;
 use sshwire::Memory;
+use sshwire::owned::beside;
 use std::alloc::Global;
 
 impl ClearPackets {

@@ -9,7 +9,6 @@ mod findings;
 mod input;
 mod line_words;
 mod listing;
-mod owned;
 mod program;
 mod recorded_stream;
 mod recording;
@@ -31,7 +30,7 @@ pub use program::{refuse_words, tool};
 pub use recording::piece;
 pub use scenario::{Scenario, ScenarioFault, TEXT_LIMIT};
 pub use scenario_line::Step;
-pub use sshsuites::{
+pub use sshlabsuites::{
     KemSuite, LabDecisions, LabSuite, lab_client_parts, lab_decisions_law, lab_law,
     lab_server_parts,
 };

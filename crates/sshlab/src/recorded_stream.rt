@@ -1,8 +1,8 @@
 //! What a recorded stream spells, as far as it can be read without keys.
 
-use crate::owned::beside;
 use sshmsg::read;
 use sshpacket::PacketFault;
+use sshwire::owned::beside;
 use sshwire::{LineReader, LineStep, Memory, VersionLine, WireFault};
 use std::alloc::Global;
 use std::fmt;

@@ -52,13 +52,13 @@ ghost use Rattle.sshlab.specs.ScenarioText.{CanBeRead, statements_in};
 ghost use Rattle.sshlab.specs.TextLines.{lines};
 ghost use Rattle.sshlab.specs.declared.scenario.TheConstants.{TEXT_LIMIT};
 
-use crate::owned::{beside, once};
 use crate::scenario_draft::{Draft, ScenarioParts};
 use crate::scenario_fields::LineFault;
 use crate::scenario_line::Step;
 use sshcore::{ClientConfig, ClientParts, ConfigFault, End, ServerConfig, ServerParts};
-use sshsuites::{LabDecisions, LabSuite};
+use sshlabsuites::{LabDecisions, LabSuite};
 use sshwire::Memory;
+use sshwire::owned::{beside, once};
 use sshworld::predict;
 use std::alloc::Global;
 use thiserror::Error;
@@ -111,8 +111,8 @@ impl From<Memory> for ScenarioFault {
 
 impl Scenario {
     ghost use Rattle.sshcore.specs.EndData.{end_data};
-    ghost use Rattle.sshsuites.specs.Lab.{lab};
-    ghost use Rattle.sshsuites.specs.LabDecisionsData.{lab_policy};
+    ghost use Rattle.sshlabsuites.specs.Lab.{lab};
+    ghost use Rattle.sshlabsuites.specs.LabDecisionsData.{lab_policy};
     ghost use Rattle.sshworld.specs.Outcome.{outcome};
 
     /// Reads a scenario of at most 1048576 bytes.

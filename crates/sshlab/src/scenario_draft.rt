@@ -10,12 +10,12 @@ ghost use Rattle.sshlab.specs.ScenarioView.{side_setting_data, statement_data};
 ghost use Rattle.sshlab.specs.Scenarios.{OfSide};
 ghost use Rattle.sshlab.specs.declared.scenario_fields.LineFault.TheVariants as fault;
 
-use crate::owned::{beside, put};
 use crate::scenario_fields::LineFault;
 use crate::scenario_line::{SideSetting, Statement, Step, statement_of};
 use crate::scenario_settings::{Setting, set_client, set_server, set_side, setting_of};
 use sshcore::{ClientParts, Credential, HostKey, ServerParts};
-use sshsuites::{LabDecisions, lab_client_parts, lab_server_parts};
+use sshlabsuites::{LabDecisions, lab_client_parts, lab_server_parts};
+use sshwire::owned::beside;
 use sshwire::{Memory, as_name};
 use sshworld::Side;
 use std::alloc::Global;
@@ -205,4 +205,13 @@ fn can_be_proved(credential: &Credential) -> bool
         Credential::None | Credential::Password(_) => true,
         Credential::PublicKey { algorithm, .. } => as_name(algorithm.as_bytes()).is_some(),
     }
+}
+
+/// Puts an item after the others. At `Memory` nothing is changed. It is generic, so that its proof doesn't look into what an item owns.
+fn put<T: Drop>(items: &mut Vec<T>, item: T) -> Result<(), Memory>
+    ensures done { OnOk result (items.new.items ≡ items.old.items ++ item ∷ []) }
+    ensures memory { OnErr result (items.new.items ≡ items.old.items) }
+{
+    items.push(item)?;
+    Ok(())
 }

@@ -6,20 +6,20 @@ ghost use Rattle.sshworld.specs.Conversed.{EachReplies};
 ghost use Rattle.sshworld.specs.CourseReceived.{IsCourseReceived};
 ghost use Rattle.sshworld.specs.Headline.{Headline};
 ghost use Rattle.sshworld.specs.Outcome.{outcome};
-ghost use Rattle.sshworld.specs.WorldCourse.{AreUnderstoodIn, WorldHolds};
+ghost use Rattle.sshworld.specs.WorldCourse.{AreCompatibleIn, WorldHolds};
 ghost use Rattle.sshworld.specs.Wordings.{wording_of};
 ghost use Rattle.sshworld.specs.Worlds.{Complete, HadMemory, IsSameSetup};
-ghost use Rattle.sshsuites.specs.Lab.{lab};
-ghost use Rattle.sshsuites.specs.LabDecisionsData.{lab_policy};
+ghost use Rattle.sshlabsuites.specs.Lab.{lab};
+ghost use Rattle.sshlabsuites.specs.LabDecisionsData.{lab_policy};
 ghost use Rattle.sshlab.specs.Steps.{EndsSettling, StepDone, StepsLeadTo, StopsInStep, SettlesFor, StepsDone, StopsInSteps};
 
-use crate::owned::once;
 use crate::scenario::Scenario;
 use crate::scenario_line::Step;
 use sshcore::Decisions;
+use sshlabsuites::{LabDecisions, LabSuite};
 use sshpacket::Suite;
-use sshsuites::{LabDecisions, LabSuite};
 use sshwire::Memory;
+use sshwire::owned::once;
 use sshworld::{World, follows_law};
 use std::alloc::Global;
 
@@ -70,7 +70,7 @@ fn do_steps<S: Suite, D: Decisions>(
     ensures still { OnOk result (HadMemory world.old → HadMemory world.new) }
     ensures setup { OnOk result (IsSameSetup world.old world.new) }
     ensures holds { OnOk result (WorldHolds S.meaning D.policy world.old → WorldHolds S.meaning D.policy world.new) }
-    ensures settled { OnOk result (AreUnderstoodIn S.meaning D.policy world.old → HadMemory world.old
+    ensures settled { OnOk result (AreCompatibleIn S.meaning D.policy world.old → HadMemory world.old
         → EndsSettling (most_requests world.old.client_config.plan + 4) steps.now → Complete world.new) }
 {
     for step in steps {
@@ -85,7 +85,7 @@ fn do_step<S: Suite, D: Decisions>(world: &mut World<'_, S, D>, step: Step) -> R
     ensures stopped { OnErr result (StopsInStep S.meaning D.policy step world.old world.new) }
     ensures still { OnOk result (HadMemory world.old → HadMemory world.new) }
     ensures holds { WorldHolds S.meaning D.policy world.new }
-    ensures settled { OnOk result (AreUnderstoodIn S.meaning D.policy world.old → HadMemory world.old
+    ensures settled { OnOk result (AreCompatibleIn S.meaning D.policy world.old → HadMemory world.old
         → SettlesFor (most_requests world.old.client_config.plan + 4) step → Complete world.new) }
 {
     match step {

@@ -1,11 +1,10 @@
 //! The words of the program, read with `clap`.
 
-ghost use Rattle.std.specs.Prelude.{◌≡◌, IfErr, IfOk, IsTrue, List, String, codes};
+ghost use Rattle.std.specs.Prelude.{◌≡◌, IfErr, IfOk, IsTrue, List, Ok, String, codes};
 ghost use Rattle.std.specs.declared.alloc.Global.{Global};
 ghost use Rattle.sshlab.specs.Statuses.{IsAsked, IsFirstWord, IsNoToolFault};
 
 use crate::command_fault::CommandFault;
-use crate::owned::each;
 use crate::request::Request;
 use clap::error::ErrorKind;
 use clap::{Arg, ArgAction, ArgMatches, Command, Error};
@@ -134,6 +133,16 @@ fn with<'a>(
 ) -> Result<Command<'a>, AllocError> {
     let (program, form) = each(program, form)?;
     program.subcommand(form)
+}
+
+/// Both values, where there are both; else the first fault.
+fn each<A: Drop, B: Drop, E: Drop>(one: Result<A, E>, other: Result<B, E>) -> Result<(A, B), E>
+    ensures { IfOk result (λ two. (one ≡ Ok two.0) × (other ≡ Ok two.1)) }
+{
+    match (one, other) {
+        (Ok(one), Ok(other)) => Ok((one, other)),
+        (Err(fault), _) | (_, Err(fault)) => Err(fault),
+    }
 }
 
 /// The form of the words of `greet`: three, all required.

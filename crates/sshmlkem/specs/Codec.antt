@@ -23,10 +23,11 @@ with_encoded_12 f bytes i =
 unfoldable pub encode_12 : List ℕ → List ℕ
 encode_12 f = repeated (with_encoded_12 f) (replicate 384 0) 128
 
--- the two numbers of 12 bits in three bytes: the first of a and b, the second of b and c
+-- the first number of 12 bits in three bytes, of which a is the first and b the middle one (FIPS 203 algorithm 7, line 6)
 unfoldable pub first_12 : ℕ → ℕ → ℕ
 first_12 a b = a + b % 16 * 256
 
+-- the second number of 12 bits in three bytes, of which b is the middle one and c the last (FIPS 203 algorithm 7, line 7)
 unfoldable pub second_12 : ℕ → ℕ → ℕ
 second_12 b c = b / 16 + c * 16
 
@@ -113,6 +114,7 @@ byte_of_bits f i =
     + compressed 1 (slice_index f (8 * i + 3)) * 8 + compressed 1 (slice_index f (8 * i + 4)) * 16 + compressed 1 (slice_index f (8 * i + 5)) * 32
     + compressed 1 (slice_index f (8 * i + 6)) * 64 + compressed 1 (slice_index f (8 * i + 7)) * 128
 
+-- the bytes after step i of the loop: byte i is that of eight numbers of one bit
 unfoldable pub with_encoded_1 : List ℕ → List ℕ → ℕ → List ℕ
 with_encoded_1 f bytes i = slice_set bytes i (byte_of_bits f i)
 

@@ -22,7 +22,7 @@ offered_three block t i =
 unfoldable pub offered_block : Taken → List ℕ → Taken
 offered_block t block = repeated (offered_three block) t 56
 
--- where nothing is taken yet
+-- the state in which no number is taken yet
 abbrev pub nothing_taken : List ℕ → Taken
 nothing_taken start = record { numbers = replicate 256 0; count = 0; state = start }
 
@@ -32,7 +32,7 @@ drawn t =
     let next = shake128_next t.state in
     offered_block (record { numbers = t.numbers; count = t.count; state = next }) (shake128_block next)
 
--- the same, until there are 256
+-- takes the numbers of one block more, until there are 256 (algorithm 7, line 4)
 unfoldable pub drawn_next : Taken → ℕ → Taken
 drawn_next t i = if nat_lt t.count 256 then drawn t else t
 
@@ -41,7 +41,8 @@ drawn_next t i = if nat_lt t.count 256 then drawn t else t
 unfoldable pub accepted_data : List ℕ → List ℕ
 accepted_data start = (repeated drawn_next (offered_block (nothing_taken start) (shake128_block start)) 4).numbers
 
--- SampleNTT of a seed and two bytes (algorithm 7)
+-- SampleNTT of a seed and two bytes (algorithm 7): an entry of the matrix. It reads five blocks of SHAKE128 at most, and puts zeros for the
+-- numbers that it lacks then.
 unfoldable pub sample_ntt : List ℕ → ℕ → ℕ → List ℕ
 sample_ntt seed column row = accepted_data (shake128_start (seed ++ column ∷ row ∷ []))
 

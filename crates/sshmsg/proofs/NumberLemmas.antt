@@ -12,7 +12,7 @@ use Rattle.sshmsg.specs.declared.fault.MsgFault.TheVariants.{Malformed, Memory, 
 use Rattle.sshmsg.specs.MessageData.{ext_info, extensions, Fields, Form, form_of, kexinit, MessageData, method_form, password, publickey, userauth_request, With}
 use Rattle.sshmsg.specs.Form.{Done, FillsForm, Of, Rest, Then, field_at, form_at}
 use Rattle.sshmsg.specs.Messages.{Spells, in_form, message_in, whole_form}
-use Rattle.sshmsg.specs.Numbers.{IsRefused, kind, number_of}
+use Rattle.sshmsg.specs.Numbers.{IsRefused, message_number, number_of}
 use Rattle.sshmsg.proofs.FormLemmas.{bind_ok, whole_ok}
 use Rattle.sshmsg.proofs.TableLemmas.{LaysOut, each_form}
 
@@ -92,10 +92,10 @@ kind_from : (shares : ShareForm) (n : ℕ) (fields : List ℕ) (form : Option Fo
 kind_from shares n fields None m known e = cc
 kind_from shares n fields (Some form) m known e = sym (read_numbered n form fields m [] (numbered shares n form known) (whole_ok n (form_at form fields) m e))
 
-pub kind_tells : (shares : ShareForm) (payload : List ℕ) (m : MessageData) → message_in shares payload ≡ Ok m → kind payload ≡ number_of m
+pub message_number_tells : (shares : ShareForm) (payload : List ℕ) (m : MessageData) → message_in shares payload ≡ Ok m → message_number payload ≡ number_of m
 unfolding message_in
-kind_tells shares [] m e = cc
-kind_tells shares (n ∷ fields) m e = kind_from shares n fields (form_of shares n) m refl e
+message_number_tells shares [] m e = cc
+message_number_tells shares (n ∷ fields) m e = kind_from shares n fields (form_of shares n) m refl e
 
 -- the reading answers what is spelled, and nothing else
 abbrev pub Complete : Type 0
@@ -152,7 +152,7 @@ alike_rows : (shares other : ShareForm) (n : ℕ) → n ≢ 30 → n ≢ 31 → 
 unfolding form_of
 alike_rows shares other n not_init not_reply = rw (ne_eqb n 30 not_init, ne_eqb n 31 not_reply) refl
 
-pub reads_alike : (shares other : ShareForm) (payload : List ℕ) → kind payload ≢ 30 → kind payload ≢ 31 → message_in shares payload ≡ message_in other payload
+pub reads_alike : (shares other : ShareForm) (payload : List ℕ) → message_number payload ≢ 30 → message_number payload ≢ 31 → message_in shares payload ≡ message_in other payload
 unfolding message_in
 reads_alike shares other [] not_init not_reply = refl
 reads_alike shares other (n ∷ fields) not_init not_reply = ap (λ (form : Option Form). in_form n fields form) (alike_rows shares other n not_init not_reply)

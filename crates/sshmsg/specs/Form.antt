@@ -30,7 +30,8 @@ Of Names = List (List ℕ)
 Of Cookie = List ℕ
 Of Reserved = Unit {0}
 
--- the bytes stand for the field
+-- The bytes stand for the field: a text of its data type (RFC 4251 section 5); the 16 bytes of a cookie, or any four bytes for the reserved
+-- number (RFC 4253 section 7.1).
 abbrev pub FieldText : (f : Field) → Of f → List ℕ → Type 0
 FieldText Flag value text = BooleanText value text
 FieldText Number value text = Uint32Text value text
@@ -45,11 +46,13 @@ FieldText Reserved value text = length text ≡ 4
 abbrev pub bytes_at : ℕ → List ℕ → Result (List ℕ × List ℕ) WireFault
 bytes_at n bytes = if nat_lt (length bytes) n then Err Short else Ok (take n bytes, drop n bytes)
 
+-- a string at the front that is UTF-8, and what is left
 unfoldable pub utf8_at : List ℕ → Result (List ℕ × List ℕ) WireFault
 utf8_at bytes = do
   s ← string_at bytes
   if is_utf8 s.0 then Ok s else Err Name
 
+-- a field of this kind at the front, and what is left (RFC 4251 section 5)
 abbrev pub field_at : (f : Field) → List ℕ → Result (Of f × List ℕ) WireFault
 field_at Flag bytes = boolean_at bytes
 field_at Number bytes = uint32_at bytes

@@ -29,7 +29,7 @@ offer_length offer =
     + length (names_body offer.compression_client_to_server) + length (names_body offer.compression_server_to_client)
     + length (names_body offer.languages_client_to_server) + length (names_body offer.languages_server_to_client)
 
--- the bytes of a field whose count varies, and how many stand there whatever it holds
+-- the bytes of a field whose count varies
 abbrev pub varying : (f : Field) → Of f → List ℕ
 varying Flag value = []
 varying Number value = []
@@ -40,6 +40,7 @@ varying Names value = length (names_body value) ∷ []
 varying Cookie value = length value ∷ []
 varying Reserved value = []
 
+-- how many bytes a field of this kind has in any case, whatever it contains
 abbrev pub fixed : Field → ℕ
 fixed Flag = 1
 fixed Number = 4
@@ -50,7 +51,7 @@ fixed Names = 4
 fixed Cookie = 0
 fixed Reserved = 4
 
--- the same of all fields
+-- the bytes of all fields whose count varies, field by field
 abbrev pub all_varying : Fields → List ℕ
 all_varying End = []
 all_varying (With f value more) = varying f value ++ all_varying more
@@ -58,6 +59,7 @@ all_varying (Pairs pairs) = pairs_length pairs ∷ []
 all_varying (OfKexInit offer) = length offer.cookie ∷ offer_length offer ∷ []
 all_varying (OfMethod m) = method_length m ∷ []
 
+-- how many bytes these fields have together in any case; a KEXINIT's are the ten lengths of its lists, the flag and the reserved number
 abbrev pub all_fixed : Fields → ℕ
 all_fixed End = 0
 all_fixed (With f value more) = fixed f + all_fixed more
@@ -70,6 +72,7 @@ abbrev pub added : ℕ → List ℕ → ℕ
 added n [] = n
 added n (m ∷ more) = added (n + m) more
 
+-- the sum of the numbers, from the first on
 abbrev pub total : List ℕ → ℕ
 total [] = 0
 total (n ∷ more) = added n more

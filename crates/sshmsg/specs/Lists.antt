@@ -8,15 +8,19 @@ use Rattle.sshmsg.specs.MessageData.{KexInitData}
 use Rattle.sshmsg.specs.Form.{bytes_at}
 use Rattle.sshmsg.specs.Written.{IsNameList}
 
+-- a name-list, as its names
 abbrev pub Names : Type 0
 Names = List (List ℕ)
 
+-- two lists
 abbrev pub Two : Type 0
 Two = Names × Names
 
+-- four lists
 abbrev pub Four : Type 0
 Four = Two × Two
 
+-- the ten lists of a KEXINIT (RFC 4253 section 7.1)
 abbrev pub Ten : Type 0
 Ten = (Two × Four) × Four
 
@@ -31,13 +35,15 @@ then_at first other bytes = do
 unfoldable pub pair_at : List ℕ → Result ((List ℕ × List ℕ) × List ℕ) WireFault
 pair_at bytes = then_at string_at string_at bytes
 
--- two lists, four and ten
+-- two lists at the front, and what is left
 unfoldable pub two_at : List ℕ → Result (Two × List ℕ) WireFault
 two_at bytes = then_at names_at names_at bytes
 
+-- four lists at the front, and what is left
 unfoldable pub four_at : List ℕ → Result (Four × List ℕ) WireFault
 four_at bytes = then_at two_at two_at bytes
 
+-- ten lists at the front, and what is left
 unfoldable pub ten_at : List ℕ → Result (Ten × List ℕ) WireFault
 ten_at bytes = then_at (then_at two_at four_at) four_at bytes
 
@@ -65,26 +71,30 @@ offer_with cookie lists follows = record {
   first_kex_packet_follows = follows;
 }
 
--- and how two, four and all ten are written
+-- two lists, one after another
 abbrev pub two_written : Two → List ℕ
 two_written two = name_list two.0 ++ name_list two.1
 
+-- four lists, one after another
 abbrev pub four_written : Four → List ℕ
 four_written four = two_written four.0 ++ two_written four.1
 
+-- the ten lists of a KEXINIT, one after another
 abbrev pub lists_written : KexInitData → List ℕ
 lists_written offer =
     two_written (offer.kex_algorithms, offer.server_host_key_algorithms)
     ++ (four_written ((offer.encryption_client_to_server, offer.encryption_server_to_client), (offer.mac_client_to_server, offer.mac_server_to_client))
     ++ four_written ((offer.compression_client_to_server, offer.compression_server_to_client), (offer.languages_client_to_server, offer.languages_server_to_client)))
 
--- and are well-formed
+-- two lists are well-formed
 abbrev pub AreTwo : Two → Type 0
 AreTwo two = IsNameList two.0 × IsNameList two.1
 
+-- four lists are well-formed
 abbrev pub AreFour : Four → Type 0
 AreFour four = AreTwo four.0 × AreTwo four.1
 
+-- the ten lists of a KEXINIT are well-formed
 abbrev pub AreLists : KexInitData → Type 0
 AreLists offer =
     AreTwo (offer.kex_algorithms, offer.server_host_key_algorithms)

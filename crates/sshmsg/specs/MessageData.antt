@@ -113,10 +113,11 @@ unimplemented = Then Number λ sequence_number. Done (Unimplemented sequence_num
 abbrev pub debug : Form
 debug = Then Flag λ always_display. Then Bytes λ text. Then Bytes λ language. Done (Debug always_display text language)
 
--- 5 and 6, RFC 4253 section 10
+-- SERVICE_REQUEST, message 5 (RFC 4253 section 10)
 abbrev pub service_request : Form
 service_request = Then Bytes λ service. Done (ServiceRequest service)
 
+-- SERVICE_ACCEPT, message 6 (RFC 4253 section 10)
 abbrev pub service_accept : Form
 service_accept = Then Bytes λ service. Done (ServiceAccept service)
 
@@ -154,26 +155,29 @@ kexinit =
 abbrev pub newkeys : Form
 newkeys = Done NewKeys
 
--- 30 and 31 where shares are mpints, RFC 4253 section 8
+-- KEXDH_INIT, message 30 where shares are mpints (RFC 4253 section 8)
 abbrev pub kexdh_init : Form
 kexdh_init = Then BigNumber λ e. Done (KexdhInit e)
 
+-- KEXDH_REPLY, message 31 where shares are mpints (RFC 4253 section 8)
 abbrev pub kexdh_reply : Form
 kexdh_reply = Then Bytes λ host_key. Then BigNumber λ f. Then Bytes λ signature. Done (KexdhReply host_key f signature)
 
--- 30 and 31 where shares are octet strings, RFC 5656 section 4 (RFC 8731 and the hybrids use them)
+-- KEX_ECDH_INIT, message 30 where shares are octet strings (RFC 5656 section 4, which RFC 8731 and the hybrids use)
 abbrev pub kex_ecdh_init : Form
 kex_ecdh_init = Then Bytes λ client_share. Done (KexEcdhInit client_share)
 
+-- KEX_ECDH_REPLY, message 31 where shares are octet strings (RFC 5656 section 4)
 abbrev pub kex_ecdh_reply : Form
 kex_ecdh_reply = Then Bytes λ host_key. Then Bytes λ server_share. Then Bytes λ signature. Done (KexEcdhReply host_key server_share signature)
 
--- the two messages of an exchange whose shares have this form
+-- the client's message of an exchange whose shares have this form
 abbrev pub init_of : ShareForm → Form
 init_of Mpint = kexdh_init
 init_of OctetString = kex_ecdh_init
 init_of Hybrid = kex_ecdh_init
 
+-- the server's message of an exchange whose shares have this form
 abbrev pub reply_of : ShareForm → Form
 reply_of Mpint = kexdh_reply
 reply_of OctetString = kex_ecdh_reply
@@ -197,7 +201,8 @@ publickey user service =
 abbrev pub is_named : List ℕ → Bool
 is_named name = bytes_eq name (codes "none") || (bytes_eq name (codes "password") || bytes_eq name (codes "publickey"))
 
--- the fields of a method
+-- the fields of `none`, `password` (two forms) and `publickey` (two forms); of any other method all bytes up to the end (RFC 4252 sections
+-- 5.2, 7 and 8; the last is profile)
 abbrev pub method_form : List ℕ → List ℕ → List ℕ → Form
 method_form user service method =
     if bytes_eq method (codes "none") then Done (UserauthRequest user service NoMethod)
@@ -246,9 +251,12 @@ forms shares =
     (SSH_MSG_USERAUTH_PK_OK, userauth_pk_ok) ∷
     []
 
+-- the form of the first row with this number, if there is one
 abbrev pub form_in : List (ℕ × Form) → ℕ → Option Form
 form_in [] n = None
 form_in (row ∷ rows) n = if n == row.0 then Some row.1 else form_in rows n
 
+-- The form of a message by its number, in an exchange with shares of this form (RFC 4253 section 12, RFC 5656 section 4, RFC 4252 section
+-- 6, RFC 8308 section 2.3). A number without a row has none.
 unfoldable pub form_of : ShareForm → ℕ → Option Form
 form_of shares n = form_in (forms shares) n

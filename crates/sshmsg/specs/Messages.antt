@@ -24,6 +24,7 @@ whole_form n (Ok (content, [])) = Ok content
 whole_form n (Ok (content, b ∷ bs)) = Err (Malformed n)
 whole_form n (Err e) = Err (Malformed n)
 
+-- what the fields say in the form of this number; a number without a form is refused as unrecognised
 abbrev pub in_form : ℕ → List ℕ → Option Form → Result MessageData MsgFault
 in_form n fields None = Err (Unrecognised n)
 in_form n fields (Some form) = whole_form n (form_at form fields)

@@ -8,6 +8,7 @@ use Rattle.sshmsg.specs.declared.numbers.TheConstants.{SSH_MSG_EXT_INFO, SSH_MSG
 use Rattle.sshmsg.specs.MessageData.{form_of, layout, MessageData}
 use Rattle.sshmsg.specs.Messages.{Spells}
 
+-- the number of a message (RFC 4250 section 4.1.2)
 abbrev pub number_of : MessageData → ℕ
 number_of m = (layout m).0
 
@@ -16,9 +17,9 @@ abbrev pub HasNoList : ℕ → Type 0
 HasNoList n = (n ≢ SSH_MSG_EXT_INFO) × (n ≢ SSH_MSG_KEXINIT) × (n ≢ SSH_MSG_USERAUTH_FAILURE)
 
 -- the number in front of a payload; 0 for no bytes
-abbrev pub kind : List ℕ → ℕ
-kind [] = 0
-kind (n ∷ fields) = n
+abbrev pub message_number : List ℕ → ℕ
+message_number [] = 0
+message_number (n ∷ fields) = n
 
 -- The payload is refused so: it has no bytes; or no message has its number; or one has it, and no message is spelled.
 abbrev pub IsRefused : ShareForm → List ℕ → MsgFault → Type 0

@@ -15,6 +15,7 @@ use Rattle.sshmsg.specs.MessageData as content
 use Rattle.sshmsg.specs.MessageData.{ext_info, extensions, Form, KexInitData, MessageData}
 use Rattle.sshmsg.specs.Form.{form_at}
 
+-- the twin of a `KexInit`
 abbrev pub kexinit_data : KexInit → KexInitData
 kexinit_data k = record {
   cookie = k.cookie.now;
@@ -31,7 +32,7 @@ kexinit_data k = record {
   first_kex_packet_follows = k.first_kex_packet_follows;
 }
 
--- the same of a KEXINIT whose lists are lent
+-- the twin of a KEXINIT whose lists are lent
 abbrev pub lent_kexinit_data : LentKexInit → KexInitData
 lent_kexinit_data k = record {
   cookie = k.cookie.now;
@@ -48,12 +49,15 @@ lent_kexinit_data k = record {
   first_kex_packet_follows = k.first_kex_packet_follows;
 }
 
+-- the name and the value of an extension (RFC 8308 section 2.3)
 abbrev pub pair_of : Extension → List ℕ × List ℕ
 pair_of x = (x.name.now, x.value.now)
 
+-- the names and values of extensions, in order
 abbrev pub pairs_of : List Extension → List (List ℕ × List ℕ)
 pairs_of xs = map pair_of xs
 
+-- the twin of a `Method`
 abbrev pub method_data : Method → content.MethodData
 method_data method.None = content.NoMethod
 method_data (method.Password password) = content.Password password.now
@@ -62,6 +66,7 @@ method_data (method.PublicKey algorithm key signature) = content.PublicKey algor
 method_data (method.PublicKeyQuery algorithm key) = content.PublicKeyQuery algorithm.now key.now
 method_data (method.Other other) = content.OtherMethod other.0 other.1
 
+-- the twin of a `Message`
 abbrev pub message_data : Message → MessageData
 message_data (message.Disconnect reason description language) = content.Disconnect reason description.now language.now
 message_data (message.Ignore bytes) = content.Ignore bytes.now
@@ -115,7 +120,7 @@ HoldsList (content.KexInit offer) = Unit {0}
 HoldsList (content.UserauthFailure methods partial_success) = Unit {0}
 HoldsList _ = ⊥
 
--- running out of memory is told of such a message alone, which the payload reads as: never in the place of another refusal
+-- running out of memory is told of such a message alone, which the payload reads as: never in the place of another refusal (profile)
 abbrev pub IsOutOfMemory : Result Message MsgFault → Result MessageData MsgFault → Type 0
 IsOutOfMemory (Ok m) read = Unit {0}
 IsOutOfMemory (Err e) read = e ≡ Memory → (m : MessageData) × (read ≡ Ok m) × HoldsList m

@@ -6,11 +6,11 @@ ghost use Rattle.sshwire.specs.declared.share_form.ShareForm.{ShareForm};
 ghost use Rattle.sshwire.specs.declared.share_form.ShareForm.TheVariants.{Hybrid, OctetString};
 ghost use Rattle.sshmsg.specs.declared.numbers.TheConstants.{SSH_MSG_KEXDH_INIT, SSH_MSG_KEXDH_REPLY};
 ghost use Rattle.sshmsg.specs.declared.fault.MsgFault.{MsgFault};
-ghost use Rattle.sshmsg.specs.MessageData.{MessageData};
+ghost use Rattle.sshmsg.specs.MessageData.{KexInit, KexInitData, MessageData};
 ghost use Rattle.sshmsg.specs.Lengths.{payload_length};
 ghost use Rattle.sshmsg.specs.Messages.{Spells, message_in};
-ghost use Rattle.sshmsg.specs.Numbers.{IsRefused, kind, number_of};
-ghost use Rattle.sshmsg.specs.Written.{IsMessageOf, IsWellFormed, written_message};
+ghost use Rattle.sshmsg.specs.Numbers.{IsRefused, message_number, number_of};
+ghost use Rattle.sshmsg.specs.Written.{IsMessageOf, IsWellFormed, kexinit_payload, written_message};
 
 /// The law of messages: a payload reads as the one message that it spells. Takes no memory.
 pub fn messages_law()
@@ -26,6 +26,9 @@ pub fn messages_law()
 pub fn written_law()
     ensures spells { (form : ShareForm) (m : MessageData) → IsMessageOf form m → IsWellFormed m → Spells form m (written_message m) }
     ensures again { (form : ShareForm) (m : MessageData) → IsMessageOf form m → IsWellFormed m → message_in form (written_message m) ≡ Ok m }
+
+    // What is written for a KEXINIT is its payload.
+    ensures kexinit { (offer : KexInitData) → written_message (KexInit offer) ≡ kexinit_payload offer }
 {
     messages_law();
 }
@@ -33,11 +36,11 @@ pub fn written_law()
 /// The law of numbers: the first byte of a payload tells which message it spells (RFC 4250 section
 /// 4.1.2). Takes no memory.
 pub fn numbers_law()
-    ensures kind { (form : ShareForm) (payload : List ℕ) (m : MessageData) → message_in form payload ≡ Ok m → kind payload ≡ number_of m }
+    ensures message_number { (form : ShareForm) (payload : List ℕ) (m : MessageData) → message_in form payload ≡ Ok m → message_number payload ≡ number_of m }
     ensures starts { (form : ShareForm) (payload : List ℕ) (m : MessageData) → Spells form m payload → (fields : List ℕ) × (payload ≡ number_of m ∷ fields) }
 
     // The form of the shares decides how 30 and 31 are read, and nothing else; both forms of octet strings read alike.
-    ensures alike { (form other : ShareForm) (payload : List ℕ) → kind payload ≢ SSH_MSG_KEXDH_INIT → kind payload ≢ SSH_MSG_KEXDH_REPLY
+    ensures alike { (form other : ShareForm) (payload : List ℕ) → message_number payload ≢ SSH_MSG_KEXDH_INIT → message_number payload ≢ SSH_MSG_KEXDH_REPLY
         → message_in form payload ≡ message_in other payload }
     ensures octets { (payload : List ℕ) → message_in OctetString payload ≡ message_in Hybrid payload }
 {}

@@ -16,7 +16,6 @@ mod law;
 mod lists;
 mod message;
 mod numbers;
-mod owned;
 mod reading;
 mod writing;
 

@@ -14,7 +14,7 @@ ghost use Rattle.sshmsg.specs.Lists.{end_at, four_at, offer_with, pair_at, ten_a
 use crate::fault::MsgFault;
 use crate::message::{Extension, KexInit, Message};
 use crate::numbers::{SSH_MSG_EXT_INFO, SSH_MSG_KEXINIT, SSH_MSG_USERAUTH_FAILURE};
-use crate::owned::{beside, once};
+use sshwire::owned::{beside, once};
 use sshwire::{BorrowedNameList, Memory, NameList, Reader, WireFault};
 use std::alloc::Global;
 

@@ -3,7 +3,7 @@
 use Rattle.std.proofs.Common.{◌≡◌, ℕ, zero, suc, ◌+◌, ◌<◌, ◌≤◌, ◌-◌, List, ◌∷◌, ◌++◌, length, min, take, refl, sym, ap, ◌∙◌, arith}
 use Rattle.std.proofs.lemmas.List.{length-append, length-take-le, length-take, take-append-le}
 use Rattle.sshneg.specs.Derivations.{KeyMaterialData, grown, hash_with, key}
-use Rattle.sshneg.specs.Growing.{Grows}
+use Rattle.sshneg.specs.GrowingKeys.{Grows}
 use Rattle.sshpacket.specs.Suite.{IsLawful, SuiteData}
 use Rattle.sshpacket.specs.declared.limits.TheConstants.{DIGEST_LIMIT}
 

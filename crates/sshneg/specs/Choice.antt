@@ -20,7 +20,7 @@ pub record IsFirst (allowed : List ℕ → Type 0) (names : List (List ℕ)) (na
   pub is_allowed : allowed name
   pub none_before : (n : List ℕ) → Contains before n → allowed n → ⊥
 
--- a host key algorithm with these capabilities has what is needed
+-- a host key algorithm with these capabilities has what is needed (that a method needs one of two is profile)
 abbrev pub serves : Need → Capability → Bool
 serves Signature capability = capability.signature
 serves Encryption capability = capability.encryption
@@ -37,7 +37,7 @@ pub record IsUsable (m : SuiteData) (client server : KexInitData) (kex : List �
   pub of_client : Contains client.server_host_key_algorithms host_key
   pub is_host_key : IsHostKeyFor m server kex host_key
 
--- the first methods of both sides are this one
+-- the first methods of both sides are this one (that markers are left out is profile)
 pub record AreFirstMethods (client server : KexInitData) (kex : List ℕ) : Type 0 where
   pub of_client : first_name (methods client.kex_algorithms) ≡ Some kex
   pub of_server : first_name (methods server.kex_algorithms) ≡ Some kex
@@ -79,12 +79,12 @@ HasChoice m client server field.Kex = (kex : List ℕ) × IsKex m client server 
 HasChoice m client server field.HostKey = HaveHostKey m client server
 HasChoice m client server f = (name : List ℕ) × IsOnBoth (list_of f client) (list_of f server) name
 
--- The field is the first without a choice.
+-- The field is the first without a choice (profile; RFC 4253 section 7.1 asks for a disconnect).
 pub record IsFirstWithout (m : SuiteData) (client server : KexInitData) (f : NoCommon) : Type 0 where
   pub before : (g : NoCommon) → order_of g < order_of f → HasChoice m client server g
   pub without : HasChoice m client server f → ⊥
 
--- the name stands at this position, and at none before it
+-- the name stands at this position, and at none before it (profile)
 pub record IsPosition (names : List (List ℕ)) (name : List ℕ) (position : ℕ) : Type 0 where
   pub before : List (List ℕ)
   pub after : List (List ℕ)
@@ -92,7 +92,7 @@ pub record IsPosition (names : List (List ℕ)) (name : List ℕ) (position : �
   pub counted : position ≡ length before
   pub none_before : Contains before name → ⊥
 
--- the positions of the names in the client's lists as sent, markers counted
+-- the positions of the names in the client's lists as sent, markers counted (profile)
 abbrev pub ArePositions : KexInitData → AlgorithmsData → Chosen → Type 0
 ArePositions client a chosen = (f : NoCommon) → IsPosition (list_of f client) (name_of f a) (position_of f chosen)
 

@@ -65,7 +65,7 @@ choice_of_directions client server kex host_key =
       compression_server_to_client = compression_server_to_client;
     })))))))
 
--- the names of all eight fields, or the first field without one
+-- the names of all eight fields, or the first field without one (RFC 4253 section 7.1)
 unfoldable pub choice : SuiteData → KexInitData → KexInitData → Result AlgorithmsData NoCommon
 choice m client server =
     with_name field.Kex (kex_choice m client server) (λ kex.
@@ -82,7 +82,7 @@ abbrev pub positioned : NoCommon → List (List ℕ) → Option (List ℕ) → R
 positioned f names (Some name) = Ok (position_in names name)
 positioned f names None = Err f
 
--- the positions in the client's lists as sent
+-- the positions in the client's lists as sent (profile)
 abbrev pub positions : KexInitData → AlgorithmsData → Chosen
 positions client a = record {
   kex = position_in client.kex_algorithms a.kex;
@@ -100,6 +100,6 @@ abbrev pub answered : KexInitData → Result AlgorithmsData NoCommon → Result 
 answered client (Ok a) = Ok (positions client a)
 answered client (Err f) = Err f
 
--- the answer as a function
+-- the answer as a function (RFC 4253 section 7.1)
 unfoldable pub answer : SuiteData → KexInitData → KexInitData → Result Chosen NoCommon
 answer m client server = answered client (choice m client server)

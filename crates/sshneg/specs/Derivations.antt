@@ -21,7 +21,7 @@ pub record ExchangeData : Type 0 where
   pub server_share : List ℕ
   pub shared : List ℕ
 
--- how many bytes that is
+-- how many bytes an exchange has together
 abbrev pub exchange_size : ExchangeData → ℕ
 exchange_size x =
     length x.client_version + length x.server_version + length x.client_kexinit + length x.server_kexinit
@@ -52,7 +52,7 @@ pub record KeyMaterialData : Type 0 where
   pub hash : List ℕ
   pub session : List ℕ
 
--- how many bytes that is
+-- how many bytes that of which keys are made has together
 abbrev pub source_size : KeyMaterialData → ℕ
 source_size x = length x.kex + length x.shared + length x.hash + length x.session
 
@@ -70,20 +70,22 @@ grown m x first (suc n) = grown m x first n ++ hash_with m x (grown m x first n)
 unfoldable pub key : SuiteData → KeyMaterialData → ℕ → ℕ → List ℕ
 key m x letter len = take len (grown m x (hash_with m x (letter ∷ x.session)) len)
 
--- the letters of the initialisation vector, the encryption key and the integrity key, by who sends
+-- the letter of the initialisation vector, by who sends: A for the client, B for the server (RFC 4253 section 7.2)
 abbrev pub iv_letter : Side → ℕ
 iv_letter Client = 65
 iv_letter Server = 66
 
+-- the letter of the encryption key, by who sends: C for the client, D for the server (RFC 4253 section 7.2)
 abbrev pub enc_letter : Side → ℕ
 enc_letter Client = 67
 enc_letter Server = 68
 
+-- the letter of the integrity key, by who sends: E for the client, F for the server (RFC 4253 section 7.2)
 abbrev pub mac_letter : Side → ℕ
 mac_letter Client = 69
 mac_letter Server = 70
 
--- the keys of the direction in which this role sends
+-- the keys of the direction in which a role sends: by the letters A, C, E for the client, B, D, F for the server (RFC 4253 section 7.2)
 unfoldable pub derived : SuiteData → KeyMaterialData → Side → List ℕ → List ℕ → KeysData
 derived m x sender cipher mac = record {
   cipher = cipher;
@@ -93,9 +95,10 @@ derived m x sender cipher mac = record {
   mac_key = key m x (mac_letter sender) (m.key_lens cipher mac).mac;
 }
 
--- the keys with which this role seals, and those with which it unseals: the keys by which the other side sends
+-- the keys with which this role seals: those by which it sends (RFC 4253 section 7.2)
 abbrev pub sealing : SuiteData → KeyMaterialData → Side → List ℕ → List ℕ → KeysData
 sealing m x role cipher mac = derived m x role cipher mac
 
+-- the keys with which this role unseals: those by which the other side sends (RFC 4253 section 7.2)
 abbrev pub unsealing : SuiteData → KeyMaterialData → Side → List ℕ → List ℕ → KeysData
 unsealing m x role cipher mac = derived m x (other role) cipher mac

@@ -90,7 +90,7 @@ abbrev pub source_with : SuiteData → Side → List ℕ → KexEnd → Option K
 source_with m role kex end =
     option_map (λ answer. source_by m kex (exchange_by m role kex end answer)) (answer_by role m kex end.random end.peer_share)
 
--- the same by the method of a choice, if there is one
+-- what keys are made of, by the method of a choice, if there is one
 abbrev pub source_chosen : SuiteData → Side → KexEnd → Result AlgorithmsData NoCommon → Option KeyMaterialData
 source_chosen m role end (Ok a) = source_with m role a.kex end
 source_chosen m role end (Err f) = None

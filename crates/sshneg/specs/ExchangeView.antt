@@ -4,6 +4,7 @@ use Rattle.sshneg.specs.declared.derivations.Exchange.{Exchange}
 use Rattle.sshneg.specs.declared.derivations.KeyMaterial.{KeyMaterial}
 use Rattle.sshneg.specs.Derivations.{ExchangeData, KeyMaterialData}
 
+-- the twin of an `Exchange`
 abbrev pub exchange_data : Exchange → ExchangeData
 exchange_data x = record {
   client_version = x.client_version.now;
@@ -16,5 +17,6 @@ exchange_data x = record {
   shared = x.shared.now;
 }
 
+-- the twin of a `KeyMaterial`
 abbrev pub key_material_data : KeyMaterial → KeyMaterialData
 key_material_data x = record { kex = x.kex.now; shared = x.shared.now; hash = x.hash.now; session = x.session.now }

@@ -40,7 +40,7 @@ list_of MacServerToClient offer = offer.mac_server_to_client
 list_of CompressionClientToServer offer = offer.compression_client_to_server
 list_of CompressionServerToClient offer = offer.compression_server_to_client
 
--- the algorithms of a field: its list without the markers
+-- the algorithms of a field: its list without the markers (that markers are left out is profile)
 abbrev pub algorithms_of : NoCommon → KexInitData → List (List ℕ)
 algorithms_of Kex offer = methods offer.kex_algorithms
 algorithms_of f offer = list_of f offer

@@ -5,7 +5,7 @@ pub mod Derivations
 pub mod ExchangeEnd
 pub mod ExchangeView
 pub mod Fields
-pub mod Growing
+pub mod GrowingKeys
 pub mod Markers
 pub mod Printed
 pub mod Strictness

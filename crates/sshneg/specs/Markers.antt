@@ -38,7 +38,7 @@ same_name (Some a) (Some b) = bytes_eq a b
 same_name (Some a) None = false
 same_name None b = false
 
--- the methods of a kex list: what is left without the markers
+-- the methods of a kex list: what is left without the markers (that the list is taken so is profile)
 abbrev pub methods : List (List ℕ) → List (List ℕ)
 methods names = filter (λ name. not (is_marker name)) names
 

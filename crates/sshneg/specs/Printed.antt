@@ -4,7 +4,7 @@ use Rattle.std.specs.Prelude.{ℕ, List, codes}
 use Rattle.sshneg.specs.declared.choice.NoCommon.{NoCommon}
 use Rattle.sshneg.specs.declared.choice.NoCommon.TheVariants.{Kex, HostKey, EncryptionClientToServer, EncryptionServerToClient, MacClientToServer, MacServerToClient, CompressionClientToServer, CompressionServerToClient}
 
--- the field's name in the program's format
+-- the field's name in the program's format (profile)
 abbrev pub field_text : NoCommon → List ℕ
 field_text Kex = codes "kex"
 field_text HostKey = codes "hostkey"

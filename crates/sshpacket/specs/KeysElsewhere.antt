@@ -16,10 +16,10 @@ unfoldable pub begins_with_name : List ℕ → Bool
 begins_with_name bytes = is_named (string_at bytes)
 
 -- What stands in a config for a private key that isn't held, told as its public key. Other bytes aren't told: a private key in a wrong
--- form doesn't leave. What is longer than a public key is cut.
+-- form doesn't leave. What is longer than a public key is cut (RFC 4253 section 6.6).
 abbrev pub public_part : List ℕ → List ℕ
 public_part bytes = if begins_with_name bytes then take BLOB_LIMIT bytes else []
 
--- a suite that does as another, and holds no key
+-- a suite that answers as this one, but holds no private key: in its place is the public key (profile)
 abbrev pub elsewhere : SuiteData → SuiteData
-elsewhere m = record m { blob = λ alg secret. public_part secret; holds = λ alg secret. false }
+elsewhere m = record m { blob = λ algorithm private_key. public_part private_key; holds = λ algorithm private_key. false }

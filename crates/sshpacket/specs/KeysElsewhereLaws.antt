@@ -46,5 +46,5 @@ elsewhere_lawful m h = record {
   share_bytes = h.share_bytes;
   shared_bytes = h.shared_bytes;
   response_bytes = h.response_bytes;
-  blob_high = λ alg secret _. public_part_short secret;
+  blob_high = λ algorithm private_key _. public_part_short private_key;
 }

@@ -7,14 +7,17 @@ use Rattle.sshwire.specs.declared.share_form.ShareForm.TheVariants.{OctetString}
 use Rattle.sshpacket.specs.Packet.{number}
 use Rattle.sshpacket.specs.Suite.{SuiteData}
 
+-- so many bytes 0
 abbrev pub zeros : ℕ → List ℕ
 zeros zero = []
 zeros (suc n) = 0 ∷ zeros n
 
+-- The meaning of the suite of a reader in clear: sealing changes nothing, padding is zeros, and nothing is shared or verified. A reader
+-- makes none of the calls that need more.
 abbrev pub no_suite : SuiteData
 no_suite = record {
   need = λ kex. Signature;
-  can = λ alg. record { signature = false; encryption = false };
+  can = λ algorithm. record { signature = false; encryption = false };
   block = λ cipher. 8;
   tag_len = λ cipher mac. 0;
   counts_length = λ cipher mac. true;
@@ -29,8 +32,8 @@ no_suite = record {
   shared = λ kex random peer. None;
   respond = λ kex random peer. None;
   digest = λ kex input. 0 ∷ [];
-  blob = λ alg secret. [];
-  holds = λ alg secret. true;
-  sign = λ alg secret input. [];
-  verify = λ alg blob input signature. false;
+  blob = λ algorithm private_key. [];
+  holds = λ algorithm private_key. true;
+  sign = λ algorithm private_key input. [];
+  verify = λ algorithm blob input signature. false;
 }

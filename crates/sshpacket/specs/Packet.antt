@@ -15,7 +15,7 @@ abbrev pub number_read : Result (ℕ × List ℕ) WireFault → ℕ
 number_read (Ok (n, rest)) = n
 number_read (Err e) = 0
 
--- the number in the first four bytes
+-- the number in the first four bytes (RFC 4251 section 5)
 unfoldable pub number : List ℕ → ℕ
 number bytes = number_read (uint32_at bytes)
 
@@ -29,8 +29,9 @@ abbrev pub counted : Bool → ℕ
 counted true = 4
 counted false = 0
 
--- a packet_length that is taken, where it counts or not, at this block and tag: what counts is a multiple and has at least 16
--- bytes, or 8 without packet_length; and with the tag there are at most 35000 in all
+-- A packet_length that is taken, where it counts or not, at this block and tag. What counts is a multiple and has at least 16 bytes, or 8
+-- without packet_length. With the tag there are at most 35000 in all: section 6.1 asks that these are taken; that more is refused is
+-- profile.
 pub record IsLength (counts : Bool) (block tag n : ℕ) : Type 0 where
   pub multiple : (counted counts + n) % alignment block ≡ 0
   pub least : 8 + counted counts ≤ n
@@ -40,7 +41,7 @@ pub record IsLength (counts : Bool) (block tag n : ℕ) : Type 0 where
 abbrev pub packet : List ℕ → List ℕ → List ℕ
 packet payload padding = length_field (1 + length payload + length padding) ++ (length padding ∷ (payload ++ padding))
 
--- the bytes are a packet of the payload: 4 to 255 bytes of padding, and the length taken
+-- the bytes are a packet of the payload: 4 to 255 bytes of padding, and the length taken (that the payload isn't empty is profile)
 pub record IsPacket (counts : Bool) (block tag : ℕ) (payload bytes : List ℕ) : Type 0 where
   pub padding : List ℕ
   pub bytes_are : bytes ≡ packet payload padding
@@ -55,7 +56,7 @@ pub record IsPadding (counts : Bool) (block len padding : ℕ) : Type 0 where
   pub multiple : (counted counts + (1 + len + padding)) % alignment block ≡ 0
   pub enough : 8 + counted counts ≤ 1 + len + padding
 
--- and no fewer are
+-- so many bytes of padding are allowed, and no fewer are (profile)
 pub record IsLeastPadding (counts : Bool) (block len padding : ℕ) : Type 0 where
   pub allowed : IsPadding counts block len padding
   pub least : (other : ℕ) → IsPadding counts block len other → padding ≤ other

@@ -14,13 +14,15 @@ use Rattle.sshpacket.specs.ReaderSteps.{needed}
 use Rattle.sshpacket.specs.Suite.{SuiteData, next_keys}
 use Rattle.sshpacket.specs.ProtectedPacket.{IsProtectedPacket, PacketMeans, Refuses}
 
--- its keys, the next packet's number, the bytes of the unfinished packet, and the fault that it found
+-- what contracts see of a packet reader: its keys, the next packet's number, the bytes of the unfinished packet, and the fault that it
+-- found
 pub record PacketReaderData : Type 0 where
   pub keys : Option KeysData
   pub seq : ℕ
   pub held : List ℕ
   pub fault : Option PacketFault
 
+-- the twin of a `PacketReader`
 unfoldable pub packet_reader_data : PacketReader → PacketReaderData
 packet_reader_data r = record { keys = r.keys; seq = r.seq; held = r.unfinished.items; fault = r.fault }
 
@@ -28,7 +30,7 @@ packet_reader_data r = record { keys = r.keys; seq = r.seq; held = r.unfinished.
 unfoldable pub last_used : PacketReader → ℕ
 last_used r = r.taken
 
--- how many bytes of a packet that was read it keeps
+-- how many bytes of a packet that was read the reader still keeps
 unfoldable pub kept : PacketReader → ℕ
 kept r = length r.packet.items
 
@@ -40,7 +42,7 @@ spare_room r = r.unfinished.spare
 unfoldable pub target_len : PacketReader → ℕ
 target_len r = r.target
 
--- how many bytes more it must have for that
+-- how many bytes more the packet at hand must have before more of it is judged
 abbrev pub missing_of : PacketReader → ℕ
 missing_of r = target_len r - length (packet_reader_data r).held
 
@@ -58,25 +60,26 @@ pub record ReaderWaits (m : SuiteData) (r : PacketReader) : Type 0 where
   pub unfinished_is : parse_packet (protection_at m (packet_reader_data r)) (packet_reader_data r).held ≡ unfinished
   pub knows : target_len r ≡ needed (protection_at m (packet_reader_data r)) (packet_reader_data r).held
 
--- it answers this payload with this number, and so many bytes were used
+-- a step has this payload with this sequence number, and so many bytes were used
 abbrev pub IsStep : List ℕ → ℕ → ℕ → PacketStep → Type 0
 IsStep payload seq used More = ⊥
 IsStep payload seq used (Payload lent number taken) = (lent.now ≡ payload) × (number ≡ seq) × (taken ≡ used)
 
+-- the call returns this payload with this sequence number, and has used so many bytes
 abbrev pub IsPayload : List ℕ → ℕ → ℕ → Result PacketStep PacketFault → Type 0
 IsPayload payload seq used (Ok step) = IsStep payload seq used step
 IsPayload payload seq used (Err f) = ⊥
 
--- What the answer says of the packet at hand: that it is unfinished; that with so many bytes of the piece it is a packet of the
--- payload, whose number is the next; or that it is refused for this cause, which so many bytes of the piece decide. Where an
--- allocation failed, nothing.
+-- What the answer says of the packet at hand (RFC 4253 section 6). It is unfinished; or with so many bytes of the piece it is a packet of
+-- the payload, whose number is the next; or it is refused for this cause, which so many bytes of the piece decide. Where an allocation
+-- failed, nothing is said.
 abbrev pub PacketAnswer : SuiteData → PacketReaderData → List ℕ → Result PacketStep PacketFault → Type 0
 PacketAnswer m s piece (Ok More) = PacketMeans (protection_at m s) (s.held ++ piece) unfinished
 PacketAnswer m s piece (Ok (Payload payload seq used)) =
     (used ≤ length piece) × (seq ≡ s.seq) × IsProtectedPacket (protection_at m s) payload.now (s.held ++ take used piece)
 PacketAnswer m s piece (Err f) = f ≢ Memory → (used : ℕ) × (used ≤ length piece) × Refuses (protection_at m s) (s.held ++ piece) f (length s.held + used)
 
--- No other answer comes than the one that the packet at hand has, unless memory runs out.
+-- No other answer comes than the one that the packet at hand has, unless memory runs out (RFC 4253 section 6).
 pub record OnlyPacketAnswer (m : SuiteData) (s : PacketReaderData) (piece : List ℕ) (result : Result PacketStep PacketFault) : Type 0 where
   pub more : PacketMeans (protection_at m s) (s.held ++ piece) unfinished → (result ≡ Ok More) ⊎ (result ≡ Err Memory)
   pub payload : (payload : List ℕ) (used : ℕ) → used ≤ length piece → IsProtectedPacket (protection_at m s) payload (s.held ++ take used piece)
@@ -90,7 +93,8 @@ ParseAnswer m s piece (Ok More) = ahead m s piece ≡ unfinished
 ParseAnswer m s piece (Ok (Payload payload seq used)) =
     (used ≤ length piece) × (ahead m s piece ≡ whole payload.now (length s.held + used)) × (seq ≡ s.seq)
 
--- and how the reader is left: with all unfinished bytes; after a packet with none, and the keys of the next one; with none and the fault
+-- how an answer leaves the reader: with all unfinished bytes; after a packet with none, and the keys and the number of the next one; with
+-- none and the fault
 abbrev pub ReaderLeaves : SuiteData → PacketReaderData → List ℕ → Result PacketStep PacketFault → PacketReader → Type 0
 ReaderLeaves m old piece (Err f) new =
     (packet_reader_data new ≡ record old { held = []; fault = Some f }) × (last_used new ≤ length piece)

@@ -22,8 +22,8 @@ pub data Parse : Type 0 where
   whole : List ℕ → ℕ → Parse
   refused : Refusal → ℕ → Parse
 
--- how packets are read, in clear or sealed: whether packet_length counts towards the multiple, the block, the length of the tag,
--- packet_length from the first four bytes, and the clear packet from all bytes of it
+-- How packets are read, in clear or sealed (RFC 4253 section 6): whether packet_length counts towards the multiple, the block, and the
+-- length of the tag. Then packet_length from the first four bytes, and the clear packet from all bytes of it.
 pub record ProtectionData : Type 0 where
   pub counts : Bool
   pub block : ℕ
@@ -31,7 +31,7 @@ pub record ProtectionData : Type 0 where
   pub head : List ℕ → ℕ
   pub unseal : List ℕ → Option (List ℕ)
 
--- in clear packet_length counts, the block is 8 and there is no tag
+-- in clear packet_length counts, the block is 8 and there is no tag (RFC 4253 section 6)
 abbrev pub protection : SuiteData → Option KeysData → ℕ → ProtectionData
 protection m None seq = record { counts = true; block = 8; tag = 0; head = number; unseal = Some }
 protection m (Some keys) seq = record { counts = m.counts_length keys.cipher keys.mac; block = m.block keys.cipher; tag = m.tag_len keys.cipher keys.mac; head = m.head keys seq; unseal = m.unseal keys seq }
@@ -47,6 +47,7 @@ opened clear len =
     else if slice_index clear 4 + 1 == length clear - 4 then refused (OfPacket Empty) len
     else whole (take (length clear - 4 - slice_index clear 4 - 1) (drop 5 clear)) len
 
+-- what is at the front once the packet is unsealed: the packet, or a refusal as P4 where its tag is wrong
 abbrev pub unsealed : Option (List ℕ) → ℕ → Parse
 unsealed None len = refused (OfPacket Mac) len
 unsealed (Some clear) len = opened clear len
@@ -55,7 +56,8 @@ unsealed (Some clear) len = opened clear len
 abbrev pub total : ProtectionData → List ℕ → ℕ
 total w bytes = 4 + w.head (take 4 bytes) + w.tag
 
--- The length is judged by the first four bytes alone; the tag, the padding and the payload, in this order, once all is there.
+-- The length is judged by the first four bytes alone; the tag, the padding and the payload, in this order, once all is there (RFC 4253
+-- section 6; the order of judgement is profile).
 unfoldable pub parse_packet : ProtectionData → List ℕ → Parse
 parse_packet w bytes =
     if nat_lt (length bytes) 4 then unfinished

@@ -9,7 +9,7 @@ pub record IsPrefix {A : Type 0} (xs ys : List A) : Type 0 where
   pub whole_is : ys ≡ xs ++ rest
 
 module _ {A : Type 0} where
-  -- it holds at each place
+  -- a statement is true at each place, of the elements before it and the one there
   abbrev pub EachPlace : (List A → A → Type 0) → List A → List A → Type 0
   EachPlace Q before [] = Unit {0}
   EachPlace Q before (x ∷ xs) = Q before x × EachPlace Q (before ++ x ∷ []) xs

@@ -18,16 +18,17 @@ parse_preamble all (Stop code rest) = refused (OfLine code) (all - length rest)
 unfoldable pub preamble_parser_by : LineForm → ℕ → Parser
 preamble_parser_by form k bytes = parse_preamble (length bytes) (reading_by form k [] bytes)
 
--- the strict one
+-- the version line with at most k other lines before it, read as a unit by the strict form (RFC 4253 section 4.2)
 abbrev pub preamble_parser : ℕ → Parser
 preamble_parser k = preamble_parser_by Strict k
 
--- what an answer says of the bytes, in the terms of the lines: a refused byte is the last of those that decide it
+-- what an answer says of the bytes, in the terms of the lines: a refused byte is the last of those that decide it (RFC 4253 section 4.2)
 abbrev pub PreambleMeansBy : LineForm → ℕ → List ℕ → Parse → Type 0
 PreambleMeansBy form k bytes unfinished = (left : ℕ) × (line : List ℕ) × LineOpen k bytes left line
 PreambleMeansBy form k bytes (whole text len) = (len ≤ length bytes) × PreambleBy form k text (take len bytes)
 PreambleMeansBy form k bytes (refused (OfLine code) len) = (place : ℕ) × (len ≡ place + 1) × LineRefusedBy form k bytes place code
 PreambleMeansBy form k bytes (refused (OfPacket code) len) = ⊥
 
+-- what an answer says of the bytes, by the strict form of version lines (RFC 4253 section 4.2)
 abbrev pub PreambleMeans : ℕ → List ℕ → Parse → Type 0
 PreambleMeans k bytes f = PreambleMeansBy Strict k bytes f

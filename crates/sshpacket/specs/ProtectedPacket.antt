@@ -32,7 +32,8 @@ pub record IsPart (w : ProtectionData) (bytes : List ℕ) : Type 0 where
   pub fits : IsLength w.counts w.block w.tag (w.head (take 4 bytes))
   pub lacks : length bytes < total w bytes
 
--- the packet at the front is refused for this cause, once so many bytes are there
+-- why the packet at the front is refused, and at which place: its length at 4, else its tag, padding or empty payload at its end (the order
+-- is profile)
 abbrev pub Refuses : ProtectionData → List ℕ → PacketFault → ℕ → Type 0
 Refuses w bytes Length place = (4 ≤ length bytes) × (place ≡ 4) × (IsLength w.counts w.block w.tag (w.head (take 4 bytes)) → ⊥)
 Refuses w bytes Mac place = IsWhole w bytes place × (w.unseal (take place bytes) ≡ None)

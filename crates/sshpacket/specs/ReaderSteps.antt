@@ -35,7 +35,7 @@ pub record Fills (target : ℕ) (piece held new : List ℕ) (used : ℕ) : Type 
   pub upto : length held + used ≤ target
   pub all : length held + used < target → used ≡ length piece
 
--- how many bytes there must be before more is judged
+-- how many bytes of a packet there must be before more of it is judged: four, then all
 abbrev pub needed : ProtectionData → List ℕ → ℕ
 needed w held = if nat_lt (length held) 4 then 4 else total w held
 

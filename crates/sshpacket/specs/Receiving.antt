@@ -24,8 +24,8 @@ ReceivesOn parsers stream us sizes old piece (Ok (Payload payload seq used)) new
 ReceivesOn parsers stream us sizes old piece (Err f) new =
     f ≢ Memory → Received parsers (stream ++ take (last_used new) piece) us sizes (old.held ++ take (last_used new) piece) (Some (OfPacket f))
 
--- the same of lines, of which the stream has no whole version line yet: all of the piece is rest; or the version is the first
--- unit, and nothing stands after it; or the refusal, at the last byte used
+-- What a line reader that stood open at a stream has received of it after an answer (RFC 4253 section 4.2). All of the piece is rest; or
+-- the version is the first unit, and nothing follows it; or there is the refusal, at the last byte used.
 abbrev pub ReceivesLinesOn : Parsers → List ℕ → List ℕ → Result LineStep WireFault → LineReaderData → Type 0
 ReceivesLinesOn parsers stream piece (Ok line_step.More) new = Received parsers (stream ++ piece) [] [] (stream ++ piece) None
 ReceivesLinesOn parsers stream piece (Ok (line_step.Done version used)) new =

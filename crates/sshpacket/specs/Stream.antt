@@ -16,7 +16,7 @@ Units = List (List ℕ)
 abbrev pub Parser : Type 0
 Parser = List ℕ → Parse
 
--- how the next one is read after these units, which had so many bytes each
+-- how the next unit is read after these units of these sizes. Padding may vary, so the units don't decide their sizes
 abbrev pub Parsers : Type 0
 Parsers = Units → List ℕ → Parser
 
@@ -43,12 +43,13 @@ abbrev pub IsRest : Parser → List ℕ → Option Refusal → Type 0
 IsRest parser rest None = parser rest ≡ unfinished
 IsRest parser rest (Some f) = parser rest ≡ refused f (length rest)
 
--- what a stream reads as: its units, of these sizes, the rest after them, and the refusal, if it is refused there
+-- what a stream reads as: its units, of these sizes, the rest after them, and the refusal, if it is refused there (RFC 4253 sections 4.2
+-- and 6)
 pub record Received (parsers : Parsers) (stream : List ℕ) (units : Units) (sizes rest : List ℕ) (refusal : Option Refusal) : Type 0 where
   pub read : Read parsers [] [] stream units sizes rest
   pub then_rest : IsRest (parsers units sizes) rest refusal
 
--- what a stream was written as: each unit as it is spelled after those before it
+-- what a stream was written as: each unit as it is spelled after those before it (RFC 4253 sections 4.2 and 6)
 pub record Sent (spells : Units → List ℕ → List ℕ) (stream : List ℕ) (units : Units) : Type 0 where
   pub spelled : stream ≡ flat_places spells [] units
 

@@ -104,8 +104,8 @@ impl<S: Suite> Suite for KeysElsewhere<S> {
         self.suite.digest(alloc, kex, input)
     }
 
-    fn blob(&self, alloc: Global, _alg: &str, secret: &[u8]) -> Result<Vec<u8>, Memory> {
-        copy_public_key(alloc, secret)
+    fn blob(&self, alloc: Global, _alg: &str, private_key: &[u8]) -> Result<Vec<u8>, Memory> {
+        copy_public_key(alloc, private_key)
     }
 
     fn holds(&self, _alg: &str, _secret: &[u8]) -> bool {
@@ -115,22 +115,22 @@ impl<S: Suite> Suite for KeysElsewhere<S> {
     fn sign(
         &self,
         alloc: Global,
-        alg: &str,
-        secret: &[u8],
+        algorithm: &str,
+        private_key: &[u8],
         input: &[u8],
     ) -> Result<Vec<u8>, Memory> {
-        self.suite.sign(alloc, alg, secret, input)
+        self.suite.sign(alloc, algorithm, private_key, input)
     }
 
     fn verify(
         &self,
         alloc: Global,
-        alg: &str,
+        algorithm: &str,
         blob: &[u8],
         input: &[u8],
         signature: &[u8],
     ) -> Result<bool, Memory> {
-        self.suite.verify(alloc, alg, blob, input, signature)
+        self.suite.verify(alloc, algorithm, blob, input, signature)
     }
 
     ghost lawful = { λ e. elsewhere_lawful (S.meaning e.suite) (S.lawful e.suite) };

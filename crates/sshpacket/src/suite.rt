@@ -231,42 +231,48 @@ pub trait Suite {
         ensures { IfOk result (λ v. v.items ≡ (meaning self.now).digest kex.now input.now) };
 
     /// The public key of a private key, at most `BLOB_LIMIT` bytes.
-    fn blob(&self, alloc: Global, alg: &str, secret: &[u8]) -> Result<Vec<u8>, Memory>
-        requires alg { IsName alg.now }
-        requires secret { length secret.now < 2 ^ 32 }
-        ensures { IfOk result (λ v. v.items ≡ (meaning self.now).blob alg.now secret.now) };
+    fn blob(&self, alloc: Global, algorithm: &str, private_key: &[u8]) -> Result<Vec<u8>, Memory>
+        requires algorithm { IsName algorithm.now }
+        requires private_key { length private_key.now < 2 ^ 32 }
+        ensures { IfOk result (λ v. v.items ≡ (meaning self.now).blob algorithm.now private_key.now) };
 
     /// Whether these bytes are a private key of this algorithm, as the suite has it, with which `sign` signs. Where they
     /// aren't, they stand for a key that is held elsewhere, by an agent, on a token or in a module of hardware: then they
     /// are its public key, which `blob` answers, and whoever runs an endpoint is asked for each signature. A suite's `blob`
     /// should tell nothing of other bytes, which may be a private key in a wrong form
     /// ([`copy_public_key`](crate::copy_public_key)).
-    fn holds(&self, alg: &str, secret: &[u8]) -> bool
-        requires alg { IsName alg.now }
-        requires secret { length secret.now < 2 ^ 32 }
-        ensures { result ≡ (meaning self.now).holds alg.now secret.now };
+    fn holds(&self, algorithm: &str, private_key: &[u8]) -> bool
+        requires algorithm { IsName algorithm.now }
+        requires private_key { length private_key.now < 2 ^ 32 }
+        ensures { result ≡ (meaning self.now).holds algorithm.now private_key.now };
 
     /// A signature of the input, at most `SIGNATURE_LIMIT` bytes with its wrapping (RFC 4253 section 6.6).
-    fn sign(&self, alloc: Global, alg: &str, secret: &[u8], input: &[u8]) -> Result<Vec<u8>, Memory>
-        requires alg { IsName alg.now }
-        requires secret { length secret.now < 2 ^ 32 }
+    fn sign(
+        &self,
+        alloc: Global,
+        algorithm: &str,
+        private_key: &[u8],
+        input: &[u8],
+    ) -> Result<Vec<u8>, Memory>
+        requires algorithm { IsName algorithm.now }
+        requires private_key { length private_key.now < 2 ^ 32 }
         requires input { length input.now < 2 ^ 32 }
-        ensures { IfOk result (λ v. v.items ≡ (meaning self.now).sign alg.now secret.now input.now) };
+        ensures { IfOk result (λ v. v.items ≡ (meaning self.now).sign algorithm.now private_key.now input.now) };
 
     /// Whether the signature is that of the input by the key of this blob.
     fn verify(
         &self,
         alloc: Global,
-        alg: &str,
+        algorithm: &str,
         blob: &[u8],
         input: &[u8],
         signature: &[u8],
     ) -> Result<bool, Memory>
-        requires alg { IsName alg.now }
+        requires algorithm { IsName algorithm.now }
         requires blob { length blob.now < 2 ^ 32 }
         requires input { length input.now < 2 ^ 32 }
         requires signature { length signature.now < 2 ^ 32 }
-        ensures { IfOk result (λ b. b ≡ (meaning self.now).verify alg.now blob.now input.now signature.now) };
+        ensures { IfOk result (λ b. b ≡ (meaning self.now).verify algorithm.now blob.now input.now signature.now) };
 
     ghost lawful: { (s : Self) → IsLawful (meaning s) };
 }

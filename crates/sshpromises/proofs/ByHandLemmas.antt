@@ -16,11 +16,11 @@ use Rattle.sshcore.specs.Endpoints.{EndpointMade, Fed, endpoint_end}
 use Rattle.sshcore.specs.EndpointParts.{DecisionsData, config_of_client, config_of_server}
 use Rattle.sshworld.specs.Headline.{Headline}
 use Rattle.sshworld.specs.Outcome.{outcome}
-use Rattle.sshworld.specs.Understood.{AreUnderstood}
+use Rattle.sshworld.specs.Compatible.{AreCompatible}
 use Rattle.sshworld.specs.Wire.{AreOnWire, HaveUsedAll, UsesMore, WireEnd}
 use Rattle.sshworld.proofs.StandsLemmas.{take_within}
 use Rattle.sshpromises.specs.Claims.{CarriesOn, wire_end}
-use Rattle.sshpromises.proofs.OwnedLemmas.{there}
+use Rattle.sshwire.proofs.OwnedLemmas.{there}
 
 -- what a side did that was fed with the next n of the other's bytes
 module _ {S D : Type 0} (meaning : S → SuiteData) (policy : D → DecisionsData) (old new : EndpointData S D) (before after : Vec ℕ Global) (sent piece : List ℕ) (u n : ℕ)
@@ -61,10 +61,10 @@ module _ {S D E : Type 0} (meaning : S → SuiteData) (policy : D → DecisionsD
     (made : Result (EndpointData S D) E) (p q : List ℕ) (to_server to_client : Vec ℕ Global) (none : p ≡ []) (nothing : q ≡ []) (is_first : c0 ≡ first) (is_made : made ≡ Ok s0)
     (of_first : EndpointMade meaning policy role.Client (config_of_client client_config) suite decisions first p to_server.items)
     (of_made : IfOk made (λ e. EndpointMade meaning policy role.Server (config_of_server server_config) suite decisions e q to_client.items))
-    (is_client : IsClient client_config) (is_server : IsServer server_config) (understood : AreUnderstood (meaning suite) (policy decisions) client_config server_config)
+    (is_client : IsClient client_config) (is_server : IsServer server_config) (compatible : AreCompatible (meaning suite) (policy decisions) client_config server_config)
     (begins : IsClient client_config → IsServer server_config → EndpointMade meaning policy role.Client (config_of_client client_config) suite decisions c0 [] to_server.items
     → EndpointMade meaning policy role.Server (config_of_server server_config) suite decisions s0 [] to_client.items → AreOnWire meaning policy client_config server_config suite decisions (wire_end c0 to_server 0) (wire_end s0 to_client 0))
-    (ends : (one other : WireEnd S D) → AreUnderstood (meaning suite) (policy decisions) client_config server_config → AreOnWire meaning policy client_config server_config suite decisions one other
+    (ends : (one other : WireEnd S D) → AreCompatible (meaning suite) (policy decisions) client_config server_config → AreOnWire meaning policy client_config server_config suite decisions one other
     → Headline (outcome (meaning suite) (policy decisions) client_config server_config) (endpoint_end one.endpoint) (endpoint_end other.endpoint) (HaveUsedAll one other))
     (done : Type 0) (carries : CarriesOn meaning policy c0 s0 to_server to_client c1 s1 done) where
   mc : EndpointMade meaning policy role.Client (config_of_client client_config) suite decisions c0 [] to_server.items
@@ -77,7 +77,7 @@ module _ {S D E : Type 0} (meaning : S → SuiteData) (policy : D → DecisionsD
 
   pub headline_by_hand : Headline (outcome (meaning suite) (policy decisions) client_config server_config) (endpoint_end c1) (endpoint_end s1) done
   headline_by_hand =
-      let h = ends (wire_end c1 carries.client_sent carries.client_used) (wire_end s1 carries.server_sent carries.server_used) understood
+      let h = ends (wire_end c1 carries.client_sent carries.client_used) (wire_end s1 carries.server_sent carries.server_used) compatible
       (carries.stay client_config server_config suite decisions (begins is_client is_server mc ms)) in
       record {
         as_given = h.as_given;

@@ -1,4 +1,3 @@
-pub mod OwnedLemmas
 pub mod PauseLemmas
 pub mod RequestLemmas
 pub mod SessionLemmas

@@ -11,7 +11,7 @@ use Rattle.sshcore.specs.EndpointData.{EndpointData}
 use Rattle.sshcore.specs.Endpoints.{EndpointMade, Fed}
 use Rattle.sshcore.specs.EndpointParts.{DecisionsData, config_of_client, config_of_server}
 use Rattle.sshpromises.specs.Claims.{AreJoinedSomehow}
-use Rattle.sshpromises.proofs.OwnedLemmas.{there}
+use Rattle.sshwire.proofs.OwnedLemmas.{there}
 
 -- the first n of some bytes are a prefix of these and more
 front : (n : ℕ) (bytes sent : List ℕ) → sent ≡ bytes → IsPrefix (take n bytes) sent

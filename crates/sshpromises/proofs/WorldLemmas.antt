@@ -11,8 +11,8 @@ use Rattle.sshcore.specs.EndpointParts.{DecisionsData}
 use Rattle.sshworld.specs.Conversed.{IsNew}
 use Rattle.sshworld.specs.Headline.{Headline}
 use Rattle.sshworld.specs.Outcome.{BothEnds, outcome}
-use Rattle.sshworld.specs.Understood.{AreUnderstood}
-use Rattle.sshworld.specs.WorldCourse.{AreUnderstoodIn, KeepsHeadline}
+use Rattle.sshworld.specs.Compatible.{AreCompatible}
+use Rattle.sshworld.specs.WorldCourse.{AreCompatibleIn, KeepsHeadline}
 use Rattle.sshworld.specs.Worlds.{Complete, HadMemory, IsSameSetup, WorldData}
 use Rattle.sshpromises.specs.Claims.{EndsWell, EndsWellOnce, PairIs}
 
@@ -25,17 +25,17 @@ both_given ends client server complete h done =
 
 module _ {S D : Type 0} (meaning : S → SuiteData) (policy : D → DecisionsData) (client : ClientData) (server : ServerData) (suite : S) (decisions : D) (w : WorldData S D)
     (of_client : w.client_config ≡ client) (of_server : w.server_config ≡ server) (of_suite : w.suite ≡ suite) (of_decisions : w.decisions ≡ decisions) where
-  pub understood_in : AreUnderstood (meaning suite) (policy decisions) client server → AreUnderstoodIn meaning policy w
-  understood_in u = rw (of_client, of_server, of_suite, of_decisions) u
+  pub compatible_in : AreCompatible (meaning suite) (policy decisions) client server → AreCompatibleIn meaning policy w
+  compatible_in u = rw (of_client, of_server, of_suite, of_decisions) u
 
-  pub understood_out : AreUnderstoodIn meaning policy w → AreUnderstood (meaning suite) (policy decisions) client server
-  understood_out = rw (sym of_client, sym of_server, sym of_suite, sym of_decisions) (λ u. u)
+  pub compatible_out : AreCompatibleIn meaning policy w → AreCompatible (meaning suite) (policy decisions) client server
+  compatible_out = rw (sym of_client, sym of_server, sym of_suite, sym of_decisions) (λ u. u)
 
-  pub headline_in : AreUnderstood (meaning suite) (policy decisions) client server → HadMemory w → KeepsHeadline meaning policy w
+  pub headline_in : AreCompatible (meaning suite) (policy decisions) client server → HadMemory w → KeepsHeadline meaning policy w
       → Headline (outcome (meaning suite) (policy decisions) client server) w.client.end w.server.end (Complete w)
   headline_in = rw (sym of_client, sym of_server, sym of_suite, sym of_decisions) (λ u had keeps. keeps u had)
 
-  pub ends_well : AreUnderstood (meaning suite) (policy decisions) client server → HadMemory w → KeepsHeadline meaning policy w
+  pub ends_well : AreCompatible (meaning suite) (policy decisions) client server → HadMemory w → KeepsHeadline meaning policy w
       → EndsWell (outcome (meaning suite) (policy decisions) client server) w
   ends_well u had keeps =
       let h = headline_in u had keeps in
@@ -68,13 +68,13 @@ module _ {S D E : Type 0} (r : Result (WorldData S D) E) (ends : BothEnds) (well
 
 module _ {S D : Type 0} (meaning : S → SuiteData) (policy : D → DecisionsData) (one other : WorldData S D)
     (client : other.client_config ≡ one.client_config) (server : other.server_config ≡ one.server_config) (suite : other.suite ≡ one.suite) (decisions : other.decisions ≡ one.decisions)
-    (understood : AreUnderstoodIn meaning policy one) (one_had : HadMemory one) (other_had : HadMemory other)
+    (compatible : AreCompatibleIn meaning policy one) (one_had : HadMemory one) (other_had : HadMemory other)
     (one_keeps : KeepsHeadline meaning policy one) (other_keeps : KeepsHeadline meaning policy other) (one_complete : Complete one) (other_complete : Complete other) where
   of_one : EndsWell (outcome (meaning one.suite) (policy one.decisions) one.client_config one.server_config) one
-  of_one = ends_well meaning policy one.client_config one.server_config one.suite one.decisions one refl refl refl refl understood one_had one_keeps
+  of_one = ends_well meaning policy one.client_config one.server_config one.suite one.decisions one refl refl refl refl compatible one_had one_keeps
 
   of_other : EndsWell (outcome (meaning one.suite) (policy one.decisions) one.client_config one.server_config) other
-  of_other = ends_well meaning policy one.client_config one.server_config one.suite one.decisions other client server suite decisions understood other_had other_keeps
+  of_other = ends_well meaning policy one.client_config one.server_config one.suite one.decisions other client server suite decisions compatible other_had other_keeps
 
   pub client_same : other.client.end ≡ one.client.end
   client_same = of_other.client_end other_complete ∙ sym (of_one.client_end one_complete)
@@ -103,10 +103,10 @@ well_once ends w well done h = record {
 -- a world that settled, of a setup in which the two understand each other
 pub settled_well : {S D : Type 0} (meaning : S → SuiteData) (policy : D → DecisionsData) (client : ClientData) (server : ServerData) (suite : S) (decisions : D) (old new : WorldData S D)
     → old.client_config ≡ client → old.server_config ≡ server → old.suite ≡ suite → old.decisions ≡ decisions → IsSameSetup old new
-    → AreUnderstoodIn meaning policy old → HadMemory new → KeepsHeadline meaning policy new → Complete new
+    → AreCompatibleIn meaning policy old → HadMemory new → KeepsHeadline meaning policy new → Complete new
     → EndsWellOnce (outcome (meaning suite) (policy decisions) client server) new
-settled_well meaning policy client server suite decisions old new a b c d same understood had keeps done =
-    let u = understood_out meaning policy client server suite decisions old a b c d understood in
+settled_well meaning policy client server suite decisions old new a b c d same compatible had keeps done =
+    let u = compatible_out meaning policy client server suite decisions old a b c d compatible in
     let x = same.same_client_config ∙ a in
     let y = same.same_server_config ∙ b in
     let z = same.same_suite ∙ c in

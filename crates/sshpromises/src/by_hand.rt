@@ -8,10 +8,10 @@ ghost use Rattle.sshworld.specs.Outcome.{outcome};
 ghost use Rattle.sshworld.specs.Wire.{UsesMore};
 ghost use Rattle.sshpromises.specs.Claims.{CarriesOn, wire_end};
 
-use crate::owned::beside;
 use sshcore::{ClientConfig, Decisions, End, Endpoint, ServerConfig};
 use sshpacket::{AgreeingSuite, Suite};
 use sshwire::Memory;
+use sshwire::owned::beside;
 use sshworld::{Delivery, Side, follows_law, wire_law};
 use std::alloc::Global;
 

@@ -4,7 +4,6 @@
 #![tactic(auto)]
 
 mod by_hand;
-mod owned;
 mod pauses;
 mod sessions;
 mod worlds;

@@ -2,7 +2,7 @@
 
 ghost use Rattle.std.specs.Prelude.{◌≡◌, ℕ, List};
 ghost use Rattle.sshneg.specs.declared.side.Side.TheVariants.{Client, Server};
-ghost use Rattle.sshcore.specs.declared.draws.Draws.{Draws};
+ghost use Rattle.sshcore.specs.declared.config_draws.Draws.{Draws};
 ghost use Rattle.sshcore.specs.AskedQuestions.{AnsweredData};
 ghost use Rattle.sshcore.specs.Asking.{IsSameAsking};
 ghost use Rattle.sshcore.specs.Dialogue.{Dialogue, IsRested};
@@ -21,7 +21,7 @@ pub fn rested_client<'a, S: Suite, L: Listener, M: Listener>(
     listener: &'a M,
 ) -> AskingEndpoint<'a, S, M>
     requires role { endpoint.role ≡ Client }
-    requires config { (draws : Draws) × (endpoint.party ≡ config_of_client (redrawn_client draws config.now)) }
+    requires config { (draws : Draws) × (endpoint.config ≡ config_of_client (redrawn_client draws config.now)) }
     requires suite { endpoint.suite ≡ suite.now }
     ensures rests { IsRested S.meaning endpoint.entry result }
     ensures same { IsSameAsking endpoint.entry result }
@@ -38,7 +38,7 @@ pub fn rested_server<'a, S: Suite, L: Listener, M: Listener>(
     listener: &'a M,
 ) -> AskingEndpoint<'a, S, M>
     requires role { endpoint.role ≡ Server }
-    requires config { (draws : Draws) × (endpoint.party ≡ config_of_server (redrawn_server draws config.now)) }
+    requires config { (draws : Draws) × (endpoint.config ≡ config_of_server (redrawn_server draws config.now)) }
     requires suite { endpoint.suite ≡ suite.now }
     ensures rests { IsRested S.meaning endpoint.entry result }
     ensures same { IsSameAsking endpoint.entry result }

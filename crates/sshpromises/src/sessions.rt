@@ -8,10 +8,10 @@ ghost use Rattle.sshcore.specs.Linked.{AreLinked, incoming_of, outgoing_of};
 ghost use Rattle.sshworld.specs.Joined.{AreCrosswise};
 ghost use Rattle.sshpromises.specs.Claims.{AreJoinedSomehow, IsJoinedEnd};
 
-use crate::owned::{beside, both, once};
 use sshcore::{ClientConfig, Decisions, Endpoint, Link, ServerConfig, Session, link_law};
 use sshpacket::{AgreeingSuite, Suite};
 use sshwire::Memory;
+use sshwire::owned::{beside, once};
 use sshworld::{World, follows_law, session_law};
 use std::alloc::Global;
 
@@ -26,6 +26,17 @@ pub fn hand_over<S: Suite, D: Decisions>(
     let of_client = client.into_session();
     let of_server = server.into_session();
     both(of_client, of_server)
+}
+
+/// Both values, where there are both. It is generic, so that its proof doesn't look into what a value owns.
+fn both<A: Drop, B: Drop>(one: Option<A>, other: Option<B>) -> Option<(A, B)>
+    ensures each { (p : A × B) → result ≡ Some p → (one ≡ Some p.0) × (other ≡ Some p.1) }
+    ensures there { (a : A) (b : B) → one ≡ Some a → other ≡ Some b → result ≡ Some (a, b) }
+{
+    match (one, other) {
+        (Some(one), Some(other)) => Some((one, other)),
+        _ => None,
+    }
 }
 
 /// A world over a suite whose ends agree hands over sessions that match crosswise, the client's first, where both

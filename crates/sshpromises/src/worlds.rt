@@ -3,14 +3,14 @@
 ghost use Rattle.std.specs.Prelude.{◌≡◌, ◌≢◌, ◌↔◌, ◌*◌, ◌+◌, IfOk, OnOk, length};
 ghost use Rattle.sshcore.specs.EndData.{AgreedData, Authenticated, Open, end_data};
 ghost use Rattle.sshworld.specs.Outcome.{outcome};
-ghost use Rattle.sshworld.specs.WorldCourse.{AreUnderstoodIn};
+ghost use Rattle.sshworld.specs.WorldCourse.{AreCompatibleIn};
 ghost use Rattle.sshworld.specs.Worlds.{Complete, HadMemory};
 ghost use Rattle.sshpromises.specs.Claims.{EndsWell, EndsWellOnce, HasRun, HasSettled, PairIs};
 
-use crate::owned::{beside, once};
 use sshcore::{ClientConfig, Decisions, End, ServerConfig};
 use sshpacket::{AgreeingSuite, Suite};
 use sshwire::Memory;
+use sshwire::owned::{beside, once};
 use sshworld::{Delivery, World, follows_law, predict};
 use std::alloc::Global;
 
@@ -20,7 +20,7 @@ pub fn same_ends<S: Suite, D: Decisions>(one: &World<'_, S, D>, other: &World<'_
     requires server { other.now.server_config ≡ one.now.server_config }
     requires suite { other.now.suite ≡ one.now.suite }
     requires decisions { other.now.decisions ≡ one.now.decisions }
-    requires understood { AreUnderstoodIn S.meaning D.policy one.now }
+    requires compatible { AreCompatibleIn S.meaning D.policy one.now }
     requires one_had { HadMemory one.now }
     requires other_had { HadMemory other.now }
     requires one_complete { Complete one.now }
@@ -50,7 +50,7 @@ pub fn schedule_ends<'a, S: AgreeingSuite, D: Decisions>(
     // All deliveries of the schedule were done, from a new world on.
     ensures ran { IfOk result (λ w. HasRun S.meaning D.policy client.now server.now suite.now decisions.now schedule.now w) }
     ensures memory { IfOk result (λ w. HadMemory w) }
-    ensures understood { IfOk result (λ w. AreUnderstoodIn S.meaning D.policy w) }
+    ensures compatible { IfOk result (λ w. AreCompatibleIn S.meaning D.policy w) }
     ensures ends { IfOk result (λ w. EndsWell (outcome (S.meaning suite.now) (D.policy decisions.now) client.now server.now) w) }
 {
     follows_law();

@@ -3,6 +3,7 @@
 use crate::worlds::{judge_prediction, judge_world};
 use sshcore::Decisions;
 use sshlab::{Scenario, ScenarioFault, TEXT_LIMIT};
+use sshlabsuites::LabSuite;
 use sshpacket::{KeysElsewhere, Suite};
 use sshrows_acts::{
     Generous, Line, Names, Row, Stop, Way, judge_config, judge_endpoint, judge_waiting,
@@ -10,7 +11,6 @@ use sshrows_acts::{
 };
 use sshrows_checks::judge_check;
 use sshsuite::DeployedSuite;
-use sshsuites::LabSuite;
 use std::alloc::Global;
 
 /// Judges the lines from the act on, an endpoint in this way.

@@ -2,11 +2,11 @@
 
 use sshcore::{Agreed, End, Fault};
 use sshlab::Scenario;
+use sshlabsuites::{LabDecisions, LabSuite};
 use sshrows_acts::{
     Line, Stop, is_out_of_memory, number_of, refused, same_agreed, same_end, same_text, shows,
     split_word, wrong, yes_or_no,
 };
-use sshsuites::{LabDecisions, LabSuite};
 use sshwire::Memory;
 use sshworld::{Delivery, Side, World};
 use std::alloc::Global;

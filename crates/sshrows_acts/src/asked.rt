@@ -187,17 +187,17 @@ impl<D: Decisions> Decisions for Asking<'_, D> {
             .signature(alloc, number, algorithm, blob, input)
     }
 
-    fn told(&self, notice: Notice<'_>) {
+    fn notice(&self, notice: Notice<'_>) {
         if self.received.is_told {
             let notices = &self.received.notices;
             notices.note(keep_notice(notices, notice));
         }
-        self.decisions.told(notice);
+        self.decisions.notice(notice);
     }
 }
 
 impl<D: Decisions> Listener for Asking<'_, D> {
-    fn told(&self, notice: Notice<'_>) {
-        Decisions::told(self, notice);
+    fn notice(&self, notice: Notice<'_>) {
+        Decisions::notice(self, notice);
     }
 }

@@ -12,9 +12,9 @@ use crate::stop::Stop;
 use crate::terms::bytes_of;
 use crate::texts::wrong;
 use crate::words::Line;
+use sshlabsuites::{KemSuite, LabSuite};
 use sshpacket::KeysElsewhere;
 use sshsuite::DeployedSuite;
-use sshsuites::{KemSuite, LabSuite};
 use std::alloc::Global;
 
 /// Whether the word begins an act below the endpoint.

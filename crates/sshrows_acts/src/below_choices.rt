@@ -5,9 +5,9 @@ use crate::stop::Stop;
 use crate::terms::bytes_of;
 use crate::texts::{flag_of, same_text, wrong, yes_or_no};
 use crate::words::{Line, split_word};
+use sshlabsuites::LabSuite;
 use sshmsg::{KexInit, Message, MsgFault, read};
 use sshneg::{Chosen, Side, choose, guess_right, strict_of};
-use sshsuites::LabSuite;
 use std::alloc::{AllocError, Global};
 
 /// Judges what is chosen over two payloads, the client's first.

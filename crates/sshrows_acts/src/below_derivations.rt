@@ -9,8 +9,8 @@ use crate::stop::Stop;
 use crate::terms::bytes_of;
 use crate::texts::{same_bytes, same_text, wrong};
 use crate::words::{Line, split_word};
+use sshlabsuites::LabSuite;
 use sshneg::{Exchange, KeyMaterial, Side, exchange_input, keys_of, signed_request};
-use sshsuites::LabSuite;
 use sshwire::as_name;
 use std::alloc::Global;
 

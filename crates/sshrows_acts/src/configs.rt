@@ -9,10 +9,10 @@ use crate::terms::bytes_of;
 use crate::texts::{nothing_after, same_bytes, same_text, shows, wrong};
 use crate::words::{Line, split_word};
 use sshcore::{ClientConfig, ClientParts, ConfigFault, ServerConfig, ServerParts, SuiteFault};
+use sshlabsuites::{KemSuite, LabSuite};
 use sshmsg::{KexInit, Message, write};
 use sshpacket::{Inventory, KeysElsewhere};
 use sshsuite::DeployedSuite;
-use sshsuites::{KemSuite, LabSuite};
 use std::alloc::Global;
 
 /// Judges a config of a client or a server: lines that change its parts, and after them what comes of it.

@@ -165,35 +165,35 @@ impl<S: Suite> Suite for CountedSuite<S> {
         self.suite.digest(alloc, kex, input)
     }
 
-    fn blob(&self, alloc: Global, alg: &str, secret: &[u8]) -> Result<Vec<u8>, Memory> {
-        self.suite.blob(alloc, alg, secret)
+    fn blob(&self, alloc: Global, algorithm: &str, private_key: &[u8]) -> Result<Vec<u8>, Memory> {
+        self.suite.blob(alloc, algorithm, private_key)
     }
 
-    fn holds(&self, alg: &str, secret: &[u8]) -> bool {
-        self.suite.holds(alg, secret)
+    fn holds(&self, algorithm: &str, private_key: &[u8]) -> bool {
+        self.suite.holds(algorithm, private_key)
     }
 
     fn sign(
         &self,
         alloc: Global,
-        alg: &str,
-        secret: &[u8],
+        algorithm: &str,
+        private_key: &[u8],
         input: &[u8],
     ) -> Result<Vec<u8>, Memory> {
         count(&self.counts.signed);
-        self.suite.sign(alloc, alg, secret, input)
+        self.suite.sign(alloc, algorithm, private_key, input)
     }
 
     fn verify(
         &self,
         alloc: Global,
-        alg: &str,
+        algorithm: &str,
         blob: &[u8],
         input: &[u8],
         signature: &[u8],
     ) -> Result<bool, Memory> {
         count(&self.counts.verified);
-        self.suite.verify(alloc, alg, blob, input, signature)
+        self.suite.verify(alloc, algorithm, blob, input, signature)
     }
 
     ghost lawful = { λ counted. S.lawful counted.suite };

@@ -6,7 +6,7 @@ use crate::terms::{bytes_of, text_of};
 use crate::texts::{number_of, wrong};
 use crate::words::{Line, split_word};
 use sshcore::{Attempt, ClientParts, Credential, HostKey, PeerReading, ServerParts, SideParts};
-use sshsuites::{lab_client_parts, lab_server_parts};
+use sshlabsuites::{lab_client_parts, lab_server_parts};
 use std::alloc::Global;
 
 /// The parts of the lab's client, changed by lines.

@@ -58,8 +58,8 @@ impl<D: Decisions> Decisions for Signing<'_, D> {
         Ok(None)
     }
 
-    fn told(&self, notice: Notice<'_>) {
-        self.decisions.told(notice);
+    fn notice(&self, notice: Notice<'_>) {
+        self.decisions.notice(notice);
     }
 }
 

@@ -10,6 +10,7 @@ use Rattle.sshsuite.specs.Aes.{cipher, last_word, next_key, next_pair, number_at
 use Rattle.sshsuite.specs.AesBytes.{IsExpanded, IsShortSchedule, block_of, encrypted_state, key_state, s_box, xtime, xtime_by}
 use Rattle.sshsuite.proofs.AesLemmas.{AreBytes, by_xor, s_box_byte, same_until, sub_bytes_is, xor_byte}
 use Rattle.sshsuite.proofs.AesStateLemmas.{below_4, below_8, cipher_is, either_byte, next, number_is, split_12, split_8, turned_words_is}
+use Rattle.sshsuite.proofs.TestLemmas.{below}
 
 -- the last word, four times
 four_times : (f : ℕ → ℕ) → block_of 4 (λ i. f (i + 12)) * 0x00000001000000010000000100000001 ≡ block_of 16 (λ i. f (12 + i % 4))
@@ -321,9 +322,6 @@ block_at w (suc n) j h =
       | inr isnt ↦ let off = eqb-false j n isnt in
           get_or-append (key_blocks w n) (block_of 16 (key_state w n) ∷ []) 0 j (omega (arith, long, off, h)) ∙ block_at w n j (below j n h off)
     ]
-  where
-    below : (k n : ℕ) → k < suc n → (k ≡ n → ⊥) → k < n
-    below k n h off = omega arith
 
 all_of : (p0 p1 p2 p3 p4 p5 p6 p7 : List ℕ) (w : ℕ → ℕ → ℕ)
     → p0 ≡ block_of 16 (key_state w 0) ∷ block_of 16 (key_state w 1) ∷ []

@@ -34,7 +34,7 @@ and_of zero f g h k = and_zero_l 0
 and_of (suc n) f g h k =
     and_block 8 (block_of n f) (block_of n g) (f n) (g n) (h n) (k n) ∙ ap (λ (m : ℕ). m * 2 ^ 8 + bit_and (f n) (g n)) (and_of n f g h k)
 
-times_2 : (n : ℕ) (f : ℕ → ℕ) → block_of n f * 2 ≡ block_of n (λ i. f i * 2)
+pub times_2 : (n : ℕ) (f : ℕ → ℕ) → block_of n f * 2 ≡ block_of n (λ i. f i * 2)
 unfolding block_of
 times_2 zero f = refl
 times_2 (suc n) f = let before = times_2 n f in omega (arith, before)

@@ -1,33 +1,13 @@
 -- What is seen by computing: of each byte its inverse and its image, and of a block its cipher.
 
-use Rattle.std.proofs.Common.{◌≡◌, ℕ, zero, suc, ◌<◌, inl, inr, Bool, true, false, refl, arith, cond, eqb}
-use Rattle.std.proofs.lemmas.Bool.{cases_Bool, eqb-false, eqb-true}
+use Rattle.std.proofs.Common.{◌≡◌, ℕ, ◌<◌, inl, inr, Bool, true, refl, arith, cond, eqb}
+use Rattle.std.proofs.lemmas.Bool.{cases_Bool, eqb-true}
 use Rattle.std.specs.Prelude.{bit_xor}
 use Rattle.sshsuite.specs.Aes.{after_rounds, chosen, cipher, doubled, doubled_by, highest_bits, inverse, last_round, last_word, mapped, mix_columns, next_key, next_pair, number_at, others_raised, product, product_to, round, round_keys, shift_rows, short_round_keys, sub_bytes, summed_words, turned, turned_words}
 use Rattle.sshsuite.specs.AesBytes.{bit_of, byte_inverse, byte_mapped, byte_product, byte_product_to, byte_turned, mapped_bit, sample_key, short_sample_key, tag_additional, tag_key, tag_sealed, xtime, xtime_by}
 use Rattle.sshsuite.specs.Ghash.{ghash, hash_to, hashed, padded_block, shifted, shifted_by, times, times_to}
 use Rattle.sshsuite.specs.Sealing.{filled_up}
-
--- a test of all numbers below another
-abbrev all_below : ℕ → (ℕ → Bool) → Bool
-all_below zero test = true
-all_below (suc n) test = cond (test n) (all_below n test) false
-
-guarded : (a b : Bool) → cond a b false ≡ true → (a ≡ true) × (b ≡ true)
-guarded true b e = (refl, e)
-guarded false b e = cc
-
-at_each : (n : ℕ) (test : ℕ → Bool) → all_below n test ≡ true → (k : ℕ) → k < n → test k ≡ true
-at_each zero test e k h = absurd (omega arith)
-at_each (suc n) test e k h =
-    let both = guarded (test n) (all_below n test) e in
-    elim (cases_Bool (eqb k n)) [
-      | inl is ↦ let at : k ≡ n = eqb-true k n is in rw at both.0
-      | inr isnt ↦ let off = eqb-false k n isnt in at_each n test both.1 k (below k n h off)
-    ]
-  where
-    below : (k n : ℕ) → k < suc n → (k ≡ n → ⊥) → k < n
-    below k n h off = omega arith
+use Rattle.sshsuite.proofs.TestLemmas.{all_below, at_each}
 
 inverts : ℕ → Bool
 inverts b = eqb (byte_product b (byte_inverse b)) (cond (eqb b 0) 0 1)

@@ -9,6 +9,7 @@ use Rattle.std.specs.Prelude.{bit_and, bit_or, bit_xor, slice_index}
 use Rattle.sshsuite.specs.Aes.{after_rounds, cipher, doubled, last_round, mix_columns, number_at, round, shift_rows, sub_bytes, turned_words}
 use Rattle.sshsuite.specs.AesBytes.{below_in_column, block_of, byte_product, byte_product_to, encrypted_state, mixed_column, s_box, shifted_row, state_after, with_key, xtime, xtime_by}
 use Rattle.sshsuite.proofs.AesLemmas.{AreBytes, and_of, below_limit, by_xor, doubled_is, limit, product_byte, s_box_byte, same_block, same_until, sub_bytes_is, xor_byte, xtime_byte, xtime_is}
+use Rattle.sshsuite.proofs.LinearLemmas.{exchanged}
 
 or_of : (n : ℕ) (f g : ℕ → ℕ) → AreBytes f → AreBytes g → bit_or (block_of n f) (block_of n g) ≡ block_of n (λ i. bit_or (f i) (g i))
 unfolding block_of
@@ -295,11 +296,6 @@ doubled_sum x y =
     let right : y * 2 ^ 1 + 0 ≡ y * 2 = omega arith in
     let both : bit_xor (x * 2 ^ 1 + 0) (y * 2 ^ 1 + 0) ≡ bit_xor (x * 2) (y * 2) = ap (λ (n : ℕ). bit_xor n (y * 2 ^ 1 + 0)) left ∙ ap (bit_xor (x * 2)) right in
     omega (arith, parts, none, both)
-
-exchanged : (a b c d : ℕ) → bit_xor (bit_xor a b) (bit_xor c d) ≡ bit_xor (bit_xor a c) (bit_xor b d)
-exchanged a b c d =
-    xor_assoc a b (bit_xor c d)
-    ∙ (ap (bit_xor a) (sym (xor_assoc b c d) ∙ (ap (λ (x : ℕ). bit_xor x d) (xor_comm b c) ∙ xor_assoc c b d)) ∙ sym (xor_assoc a c (bit_xor b d)))
 
 xtime_sum : (a b : ℕ) → a < 2 ^ 8 → b < 2 ^ 8 → xtime (bit_xor a b) ≡ bit_xor (xtime a) (xtime b)
 xtime_sum a b h k =

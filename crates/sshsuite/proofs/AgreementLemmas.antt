@@ -1,8 +1,8 @@
 -- Two sides of diffie-hellman-group14-sha256 come to one shared secret.
 
-use Rattle.std.proofs.Common.{◌≡◌, ℕ, zero, suc, ◌+◌, ◌-◌, ◌*◌, ◌/◌, ◌%◌, ◌^◌, ◌<◌, Bool, true, false, List, [], ◌∷◌, length, refl, sym, ap, ◌∙◌, arith, cond, eqb, leb, ltb}
-use Rattle.std.proofs.Math.Nat.{div-add-mod, mod-eq_of_lt, mod-one, pow-suc, pow-zero}
-use Rattle.std.proofs.lemmas.Bool.{cond_both, eqb-false, eqb-true, false≢true, leb-false, lt-ltb, ltb-true}
+use Rattle.std.proofs.Common.{◌≡◌, ℕ, zero, suc, ◌+◌, ◌-◌, ◌*◌, ◌/◌, ◌%◌, ◌^◌, ◌<◌, Bool, true, List, [], ◌∷◌, length, refl, sym, ap, ◌∙◌, arith, cond, eqb, leb, ltb}
+use Rattle.std.proofs.Math.Nat.{div-add-mod, mod-eq_of_lt, mod-one, pos_of_ne-zero, pow-suc, pow-zero}
+use Rattle.std.proofs.lemmas.Bool.{and_parts, cond_both, eqb-false, eqb-true, leb-false, lt-ltb, ltb-true}
 use Rattle.std.proofs.lemmas.Nat.{mod-mul-add, mod_below, mul-add-lt, pow-add, pow-mod}
 use Rattle.std.specs.Int.{byte_at, bytes_high_first}
 use Rattle.std.specs.Prelude.{◌&&◌, None, Some}
@@ -58,12 +58,8 @@ body_positive (b ∷ bytes) h =
     cond_both (eqb b 0) (mpint_body bytes) (cond (leb 128 b) (0 ∷ b ∷ bytes) (b ∷ bytes)) (λ (xs : List ℕ). is_positive_body xs ≡ true)
     (λ is. let none = nothing b (256 ^ length bytes) (eqb-true b 0 is) in body_positive bytes (omega (arith, none, h)))
     (λ isnt. cond_both (leb 128 b) (0 ∷ b ∷ bytes) (b ∷ bytes) (λ (xs : List ℕ). is_positive_body xs ≡ true)
-    (λ high. high) (λ low. plain b bytes (positive b (eqb-false b 0 isnt)) (leb-false 128 b low)))
+    (λ high. high) (λ low. plain b bytes (pos_of_ne-zero (eqb-false b 0 isnt)) (leb-false 128 b low)))
   where
-    positive : (n : ℕ) → (n ≡ 0 → ⊥) → 0 < n
-    positive zero some = absurd (some refl)
-    positive (suc n) some = omega arith
-
     plain : (b : ℕ) (bytes : List ℕ) → 0 < b → b < 128 → is_positive_body (b ∷ bytes) ≡ true
     plain b [] some low = let e = lt-ltb 0 b some in let f = lt-ltb b 128 low in rw (e, f) refl
     plain b (c ∷ bytes) some low = let e = lt-ltb 0 b some in let f = lt-ltb b 128 low in rw (e, f) refl
@@ -73,8 +69,8 @@ pub read_of_body : (n : ℕ) → is_within n ≡ true → peer_number (number_bo
 unfolding peer_number number_body bytes_high
 read_of_body n within =
     let bytes : List ℕ = bytes_high_first 256 n in
-    let low = ltb-true 1 n (first (ltb 1 n) (ltb n (prime - 1)) within) in
-    let high = ltb-true n (prime - 1) (second (ltb 1 n) (ltb n (prime - 1)) within) in
+    let low = ltb-true 1 n (and_parts (ltb 1 n) (ltb n (prime - 1)) within).0 in
+    let high = ltb-true n (prime - 1) (and_parts (ltb 1 n) (ltb n (prime - 1)) within).1 in
     let short = prime_short in
     let fits : n < 256 ^ 256 = omega (arith, high, short) in
     let is : number_high bytes ≡ n = high_of_bytes 256 n ∙ mod-eq_of_lt fits in
@@ -82,14 +78,6 @@ read_of_body n within =
     let positive : is_positive_body (mpint_body bytes) ≡ true = body_positive bytes (omega (arith, is, low)) in
     given (is_positive_body (mpint_body bytes)) (number_high (mpint_body bytes)) n positive same within
   where
-    first : (x y : Bool) → (x && y) ≡ true → x ≡ true
-    first true y e = refl
-    first false y e = e
-
-    second : (x y : Bool) → (x && y) ≡ true → y ≡ true
-    second true y e = e
-    second false y e = absurd (false≢true e)
-
     given : (b : Bool) (m n : ℕ) → b ≡ true → m ≡ n → is_within n ≡ true → cond (b && is_within m) (Some m) None ≡ Some n
     given b m n eb em within = rw (eb, em, within) refl
 

@@ -2,24 +2,22 @@
 
 use Rattle.std.proofs.Common.{◌≡◌, ℕ, ◌*◌, ◌/◌, ◌%◌, ◌^◌, ◌<◌, sym, ap, ap₂, ◌∙◌, arith}
 use Rattle.std.proofs.lemmas.Nat.{mod_below, pow_pos, shr_split, xor_comm, xor_mod, xor_shr}
-use Rattle.std.specs.Int.Bits.{xor_assoc, xor_self, xor_zero_l, xor_zero_r}
+use Rattle.std.specs.Int.Bits.{xor_assoc, xor_zero_l, xor_zero_r}
 use Rattle.std.specs.Prelude.{bit_xor}
 use Rattle.sshsuite.proofs.CarrylessLemmas.{first_linear, first_raised, second_linear, second_raised, words_bound}
 use Rattle.sshsuite.proofs.LinearLemmas.{apart, exchanged, raised}
 use Rattle.sshsuite.specs.Carryless.{carryless}
+use Rattle.sshwire.specs.Masks.{xor_twice}
 
 of_words : (x : ℕ) → x ≡ bit_xor (x / 2 ^ 64 * 2 ^ 64) (x % 2 ^ 64)
 of_words x = sym (apart 64 (x / 2 ^ 64) (x % 2 ^ 64) (mod_below x (2 ^ 64) (pow_pos 64)) ∙ shr_split x 64)
-
-twice : (a b : ℕ) → bit_xor (bit_xor a b) b ≡ a
-twice a b = xor_assoc a b b ∙ (ap (bit_xor a) (xor_self b) ∙ xor_zero_r a)
 
 -- of four products, two and the product of the sums leave the sum of the other two
 left : (l a b h : ℕ) → bit_xor (bit_xor (bit_xor (bit_xor l a) (bit_xor b h)) l) h ≡ bit_xor b a
 left l a b h =
     xor_assoc (bit_xor (bit_xor l a) (bit_xor b h)) l h
     ∙ (exchanged (bit_xor l a) (bit_xor b h) l h
-    ∙ (ap₂ bit_xor (ap (λ (n : ℕ). bit_xor n l) (xor_comm l a) ∙ twice a l) (twice b h) ∙ xor_comm a b))
+    ∙ (ap₂ bit_xor (ap (λ (n : ℕ). bit_xor n l) (xor_comm l a) ∙ xor_twice a l) (xor_twice b h) ∙ xor_comm a b))
 
 middle : (a0 a1 b0 b1 : ℕ)
     → bit_xor (bit_xor (carryless (bit_xor a0 a1) (bit_xor b0 b1)) (carryless a0 b0)) (carryless a1 b1) ≡ bit_xor (carryless a1 b0) (carryless a0 b1)

@@ -1,13 +1,13 @@
 -- Numbers of words as bytes, the highest first.
 
 use Rattle.std.proofs.Common.{◌≡◌, ℕ, zero, suc, ◌+◌, ◌-◌, ◌*◌, ◌/◌, ◌%◌, ◌^◌, ◌<◌, ◌≤◌, List, [], ◌∷◌, ◌++◌, length, drop, take, refl, sym, ap, ap₂, ◌∙◌, add-one, arith, true, false, cond, ltb, leb, inl, inr}
-use Rattle.std.proofs.Math.Nat.{add-mul-div_left, div-div-eq-div-mul, pow-zero}
+use Rattle.std.proofs.Math.Nat.{add-mul-div_left, div-div-eq-div-mul, pos_of_ne-zero, pow-zero}
 use Rattle.std.proofs.lemmas.List.{append-nil, drop-drop, drop_all, drop_at, drop_more, length-drop, length-replicate, length-take-le, take-replicate}
 use borrow.Rule.Slice.PartMut.{put_mid}
 use Rattle.std.proofs.lemmas.Nat.{div-mul-add, mul-le, pow-add}
-use Rattle.std.proofs.lemmas.Bool.{cases_lt, false≢true, le-ltb, leb-true, lt-ltb, ltb-true}
+use Rattle.std.proofs.lemmas.Bool.{and_parts, cases_lt, false≢true, le-ltb, leb-true, lt-ltb, ltb-true}
 use Rattle.std.specs.Int.{byte_at, bytes_high_first, from_be_bytes, to_be_bytes, w64}
-use Rattle.std.specs.Prelude.{◌&&◌, ◌||◌, Bool, Option, None, Some, replicate, slice_index, slice_set}
+use Rattle.std.specs.Prelude.{◌||◌, Option, None, Some, replicate, slice_index, slice_set}
 use Rattle.sshsuite.specs.Bits.{high_word_at}
 use Rattle.sshsuite.specs.Group14.{bytes_high, is_positive_body, number_high}
 use Rattle.sshsuite.specs.Group14Laws.{byte_is, some_power}
@@ -167,14 +167,6 @@ filled_is m n bytes h =
     ap₂ ◌++◌ front (ap (λ (t : List ℕ). bytes ++ t) none ∙ append-nil bytes)
 
 -- Bodies of mpints.
-and_left : (x y : Bool) → (x && y) ≡ true → x ≡ true
-and_left true y e = refl
-and_left false y e = e
-
-and_right : (x y : Bool) → (x && y) ≡ true → y ≡ true
-and_right true y e = e
-and_right false y e = absurd (false≢true e)
-
 pub positive_some : (body : List ℕ) → is_positive_body body ≡ true → 0 < length body
 unfolding is_positive_body
 positive_some [] e = absurd (false≢true e)
@@ -188,9 +180,9 @@ pub after_zero : (body : List ℕ) → is_positive_body body ≡ true → slice_
     → (number_high (drop 1 body) ≡ number_high body) × (0 < length (drop 1 body)) × (0 < slice_index (drop 1 body) 0)
 unfolding is_positive_body number_high
 after_zero [] e none = absurd (false≢true e)
-after_zero (b ∷ []) e none = absurd (let h = ltb-true 0 b (and_left (ltb 0 b) (ltb b 128) e) in omega (arith, h, none))
+after_zero (b ∷ []) e none = absurd (let h = ltb-true 0 b (and_parts (ltb 0 b) (ltb b 128) e).0 in omega (arith, h, none))
 after_zero (b ∷ c ∷ bytes) e none =
-    let both : (ltb 0 b || leb 128 c) ≡ true = and_right (ltb b 128) (ltb 0 b || leb 128 c) e in
+    let both : (ltb 0 b || leb 128 c) ≡ true = (and_parts (ltb b 128) (ltb 0 b || leb 128 c) e).1 in
     let first : ltb 0 b ≡ false = le-ltb 0 b (omega (arith, none)) in
     let high : 128 ≤ c = leb-true 128 c (rw first at both) in
     let same : b ≡ 0 = none in
@@ -198,11 +190,7 @@ after_zero (b ∷ c ∷ bytes) e none =
     (omega (arith, head), omega arith, omega (arith, high))
 
 pub not_zero : (body : List ℕ) → is_positive_body body ≡ true → (slice_index body 0 ≡ 0 → ⊥) → 0 < slice_index body 0
-not_zero body e some = positive (slice_index body 0) some
-  where
-    positive : (n : ℕ) → (n ≡ 0 → ⊥) → 0 < n
-    positive zero some = absurd (some refl)
-    positive (suc n) some = omega arith
+not_zero body e some = pos_of_ne-zero some
 
 pub high_below : (bytes : List ℕ) → ((k : ℕ) → slice_index bytes k < 256) → number_high bytes < 256 ^ length bytes
 unfolding number_high

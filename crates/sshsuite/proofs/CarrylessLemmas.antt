@@ -6,7 +6,8 @@ use Rattle.std.proofs.lemmas.Nat.{pow-add, pow_pos, shl_below, xor_lt, xor_mod, 
 use Rattle.std.proofs.Math.Nat.{div-eq_of_lt, mul_assoc, pow-le-pow_right}
 use Rattle.std.specs.Int.Bits.{xor_self, xor_zero_l, xor_zero_r}
 use Rattle.std.specs.Prelude.{bit_xor}
-use Rattle.sshsuite.proofs.LinearLemmas.{IsLinear, agree, all_below, at_each, raised, sum_linear, then_linear}
+use Rattle.sshsuite.proofs.LinearLemmas.{IsLinear, agree, raised, sum_linear, then_linear}
+use Rattle.sshsuite.proofs.TestLemmas.{all_below, at_each}
 use Rattle.sshsuite.specs.Carryless.{carryless, carryless_to}
 
 none_linear : IsLinear (λ a. 0)
@@ -143,7 +144,7 @@ bit_below zero p w h l = let z : 0 * p ≡ 0 = omega arith in let c = pow_pos w 
 bit_below (suc zero) p w h l = let o : 1 * p ≡ p = omega arith in omega (arith, o, l)
 bit_below (suc (suc t)) p w h l = absurd (omega arith)
 
-widened : (p v w : ℕ) → p < 2 ^ v → v ≤ w → p < 2 ^ w
+pub widened : (p v w : ℕ) → p < 2 ^ v → v ≤ w → p < 2 ^ w
 widened p v w h l = let one : 1 ≤ 2 = omega arith in let top : 2 ^ v ≤ 2 ^ w = pow-le-pow_right one l in omega (arith, h, top)
 
 pub words_bound : (x y : ℕ) → x < 2 ^ 64 → y < 2 ^ 64 → carryless x y < 2 ^ 128

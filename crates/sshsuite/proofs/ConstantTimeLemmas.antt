@@ -1,6 +1,6 @@
 -- Choices by masks, and a comparison by the bits in which two lists differ.
 
-use Rattle.std.proofs.Common.{◌≡◌, ℕ, zero, suc, ◌+◌, ◌-◌, ◌%◌, ◌^◌, ◌<◌, inl, inr, Bool, true, false, List, length, refl, sym, ap, ◌∙◌, add-one, arith, cond, eqb}
+use Rattle.std.proofs.Common.{◌≡◌, ℕ, zero, suc, ◌+◌, ◌-◌, ◌%◌, ◌^◌, ◌<◌, inl, inr, List, length, refl, sym, ap, ◌∙◌, add-one, arith, cond, eqb}
 use Rattle.std.proofs.lemmas.Bool.{cases_Bool, eqb-false, eqb-true}
 use Rattle.std.proofs.lemmas.List.{ext_get_or}
 use Rattle.std.proofs.lemmas.Nat.{and_comm, and_mask, le_or_l, le_or_r, xor_lt}
@@ -8,6 +8,7 @@ use Rattle.std.proofs.lemmas.Slice.Eq.{bytes_eq-Decides}
 use Rattle.std.specs.Int.Bits.{and_zero_l, or_zero_l, xor_assoc, xor_self, xor_zero_l, xor_zero_r}
 use Rattle.std.specs.Prelude.{bit_and, bit_or, bit_xor, slice_index}
 use Rattle.std.specs.Str.{bytes_eq}
+use Rattle.sshsuite.proofs.TestLemmas.{below, by_both}
 
 xor_own : (a b : ℕ) → bit_xor a (bit_xor a b) ≡ b
 xor_own a b = sym (xor_assoc a a b) ∙ (ap (λ (n : ℕ). bit_xor n b) (xor_self a) ∙ xor_zero_l b)
@@ -54,19 +55,11 @@ same_at a b (suc n) e k h =
       | inl is ↦ let at : k ≡ n = eqb-true k n is in rw at (xor_none (slice_index a n) (slice_index b n) (omega (arith, last, e)))
       | inr isnt ↦ let off = eqb-false k n isnt in same_at a b n (omega (arith, front, e)) k (below k n h off)
     ]
-  where
-    below : (k n : ℕ) → k < suc n → (k ≡ n → ⊥) → k < n
-    below k n h off = omega arith
 
 no_differences : (a : List ℕ) (n : ℕ) → differences a a n ≡ 0
 unfolding differences
 no_differences a zero = refl
 no_differences a (suc n) = rw (no_differences a n) (or_zero_l (bit_xor (slice_index a n) (slice_index a n)) ∙ xor_self (slice_index a n))
-
-pub by_both : (x y : Bool) → (x ≡ true → y ≡ true) → (y ≡ true → x ≡ true) → x ≡ y
-by_both true y f g = sym (f refl)
-by_both false true f g = g refl
-by_both false false f g = refl
 
 -- there are none exactly if the lists are equal
 pub equal_is : (a b : List ℕ) → length a ≡ length b → eqb (differences a b (length a)) 0 ≡ bytes_eq a b

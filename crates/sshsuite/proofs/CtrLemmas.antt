@@ -8,7 +8,7 @@ use Rattle.sshsuite.specs.CipherNames.{is_short_key, keys_by}
 use Rattle.sshsuite.specs.CounterMode.{stream_block, stream_to}
 use Rattle.sshsuite.specs.Ctr.{counter_of, covers_sealed, head, mask}
 use Rattle.sshsuite.specs.GcmLaws.{front_clear}
-use Rattle.sshsuite.specs.Masks.{length_xored, xored}
+use Rattle.sshwire.specs.Masks.{length_xored, xored}
 use Rattle.sshsuite.specs.SealingLaws.{number_front}
 
 -- where the tag covers what is sealed it stands in clear

@@ -18,6 +18,7 @@ use Rattle.sshsuite.specs.EdwardsNumbers.{Coordinates, d_number}
 use Rattle.sshsuite.specs.FieldBytes.{bytes_of_number}
 use Rattle.sshsuite.specs.FieldNumbers.{HasNumber, minus, times}
 use Rattle.sshsuite.specs.FieldValues.{field, value}
+use Rattle.sshsuite.proofs.TestLemmas.{by_both}
 
 -- Bytes of numbers are as the numbers.
 number_back : (n : ℕ) → n < 2 ^ 256 → number_of_32 (bytes_of_number n) ≡ n
@@ -32,11 +33,6 @@ number_back n h =
   where
     together : (n : ℕ) → n % 2 ^ 64 + 2 ^ 64 * (n / 2 ^ 64 % 2 ^ 64) + 2 ^ 128 * (n / 2 ^ 128 % 2 ^ 64) + 2 ^ 192 * (n / 2 ^ 192) ≡ n
     together n = omega arith
-
-by_both : (x y : Bool) → (x ≡ true → y ≡ true) → (y ≡ true → x ≡ true) → x ≡ y
-by_both true y f g = sym (f refl)
-by_both false true f g = g refl
-by_both false false f g = refl
 
 pub same_number : (m n : ℕ) → m < 2 ^ 256 → n < 2 ^ 256 → bytes_eq (bytes_of_number m) (bytes_of_number n) ≡ eqb m n
 same_number m n h k =

@@ -1,7 +1,7 @@
 -- The code computes with points of numbers.
 
 use Rattle.std.proofs.Common.{◌≡◌, ℕ, zero, suc, ◌-◌, ◌*◌, ◌%◌, inl, inr, Bool, true, false, List, refl, sym, subst, ap, ap₂, ◌∙◌, arith, cond, eqb}
-use Rattle.std.proofs.lemmas.Bool.{cases_Bool, eqb-true}
+use Rattle.std.proofs.lemmas.Bool.{and_parts, cases_Bool, eqb-true}
 use Rattle.std.specs.Prelude.{◌&&◌, slice_index}
 use Rattle.sshsuite.specs.Bits.{bit_at}
 use Rattle.sshsuite.specs.Edwards25519.{add_points, add_summand, base_point, double, double_and_add, encode_point, is_one, multiply, multiply_to, negate, neutral_factors, point_of_factors, summand_of, times_z, twice_d, with_sign}
@@ -10,7 +10,6 @@ use Rattle.sshsuite.specs.declared.edwards25519.Factors.{Factors}
 use Rattle.sshsuite.specs.declared.edwards25519.Point.{Point}
 use Rattle.sshsuite.specs.declared.edwards25519.Summand.{Summand}
 use Rattle.sshsuite.proofs.FieldNumberLemmas.{HasLoose, HasTight, add_number, difference_half, difference_number, encode_number, exchange, half_loose, inverse_number, loose_number, mul_number, mul_tight, none_number, none_tight, one_number, one_tight, products, square_tight, sub_number, sum_half, sum_number, tight_by, tight_half, tight_loose, tight_number}
-use Rattle.sshsuite.proofs.X25519Lemmas.{both_true}
 use Rattle.sshsuite.specs.EdwardsNumbers.{Coordinates, HasCoordinates, added, base_numbers, bytes_of_point, doubled, multiple, multiple_to, neutral_numbers, of_factors, opposite, twice_d_number}
 use Rattle.sshsuite.specs.FieldNumbers.{HasNumber, minus, plus, times}
 use Rattle.sshsuite.specs.FieldValues.{field, value}
@@ -88,10 +87,10 @@ one_is a n h e =
     let b3 : Bool = eqb (slice_index a 3) 0 in
     let b2 : Bool = eqb (slice_index a 2) 0 in
     let b1 : Bool = eqb (slice_index a 1) 0 in
-    let e0 = both_true (eqb (slice_index a 0) 1) (b1 && (b2 && (b3 && b4))) e in
-    let e1 = both_true b1 (b2 && (b3 && b4)) e0.1 in
-    let e2 = both_true b2 (b3 && b4) e1.1 in
-    let e3 = both_true b3 b4 e2.1 in
+    let e0 = and_parts (eqb (slice_index a 0) 1) (b1 && (b2 && (b3 && b4))) e in
+    let e1 = and_parts b1 (b2 && (b3 && b4)) e0.1 in
+    let e2 = and_parts b2 (b3 && b4) e1.1 in
+    let e3 = and_parts b3 b4 e2.1 in
     let l0 : slice_index a 0 ≡ 1 = eqb-true (slice_index a 0) 1 e0.0 in
     let l1 : slice_index a 1 ≡ 0 = eqb-true (slice_index a 1) 0 e1.0 in
     let l2 : slice_index a 2 ≡ 0 = eqb-true (slice_index a 2) 0 e2.0 in

@@ -7,7 +7,7 @@ use Rattle.std.specs.Prelude.{bit_or, slice_index}
 use Rattle.sshsuite.specs.Bits.{bytes_of_words, number_of_32, word_at}
 use Rattle.sshsuite.specs.FieldElement.{add, canonical, decode, encode, none, packed}
 use Rattle.sshsuite.specs.Limbs.{add64, mul64, reduced_once}
-use Rattle.sshsuite.proofs.FieldLemmas.{AreTight, add_tight}
+use Rattle.sshsuite.proofs.FieldLemmas.{AreTight, add_tight, least}
 use Rattle.sshsuite.proofs.WordLemmas.{AreWords, or_high}
 use Rattle.sshsuite.specs.FieldBytes.{bytes_of_number}
 use Rattle.sshsuite.specs.FieldValues.{AreBelow, field, value, weighed}
@@ -33,9 +33,6 @@ five_limbs : (w0 w1 w2 w3 l0 l1 l2 l3 l4 : ℕ) → w3 < 2 ^ 64 → l0 ≡ w0 % 
     → weighed l0 l1 l2 l3 l4 + 2 ^ 255 * (w3 / 2 ^ 63) ≡ w0 + 2 ^ 64 * w1 + 2 ^ 128 * w2 + 2 ^ 192 * w3
 five_limbs w0 w1 w2 w3 l0 l1 l2 l3 l4 h e0 e1 e2 e3 e4 = omega arith
 
-low : (x : ℕ) → x % 2 ^ 51 < 2 ^ 51
-low x = omega arith
-
 least_of : (x y q : ℕ) → x + 2 ^ 255 * q ≡ y → x < 2 ^ 255 → x ≡ y % 2 ^ 255
 least_of x y q e h = omega arith
 
@@ -49,7 +46,7 @@ decode_value bytes are =
     let w1 : ℕ = word_at bytes 8 in
     let w2 : ℕ = word_at bytes 16 in
     let w3 : ℕ = word_at bytes 24 in
-    let below : AreBelow (2 ^ 51) (decode bytes) = record { l0 = low w0; l1 = low _; l2 = low _; l3 = low _; l4 = low _ } in
+    let below : AreBelow (2 ^ 51) (decode bytes) = record { l0 = least w0; l1 = least _; l2 = least _; l3 = least _; l4 = least _ } in
     let e = five_limbs w0 w1 w2 w3 (w0 % 2 ^ 51) (bit_or (w0 / 2 ^ 51) (w1 * 2 ^ 13 % 2 ^ 64) % 2 ^ 51) (bit_or (w1 / 2 ^ 38) (w2 * 2 ^ 26 % 2 ^ 64) % 2 ^ 51)
     (bit_or (w2 / 2 ^ 25) (w3 * 2 ^ 39 % 2 ^ 64) % 2 ^ 51) (w3 / 2 ^ 12 % 2 ^ 51) are.w3 refl (limb1 w0 w1 are.w0) (limb2 w1 w2 are.w1) (limb3 w2 w3 are.w2) refl in
     (below, least_of (value (decode bytes)) (w0 + 2 ^ 64 * w1 + 2 ^ 128 * w2 + 2 ^ 192 * w3) (w3 / 2 ^ 63) e (bounded _ _ _ _ _ below.l0 below.l1 below.l2 below.l3 below.l4))
@@ -164,10 +161,10 @@ canonical_value l h =
     let second = chain l0 l1 l2 l3 l4 (mul64 over 19) (m0 / 2 ^ 51) (m1 / 2 ^ 51) (m2 / 2 ^ 51) (m3 / 2 ^ 51) (m4 / 2 ^ 51)
     (m0 % 2 ^ 51) (m1 % 2 ^ 51) (m2 % 2 ^ 51) (m3 % 2 ^ 51) (m4 % 2 ^ 51)
     (sum64 l0 (mul64 over 19) k0 t0) (sum64 l1 (m0 / 2 ^ 51) k1 q0) (sum64 l2 (m1 / 2 ^ 51) k2 q1) (sum64 l3 (m2 / 2 ^ 51) k3 q2) (sum64 l4 (m3 / 2 ^ 51) k4 q3) in
-    let below : AreBelow (2 ^ 51) (canonical l) = record { l0 = low m0; l1 = low m1; l2 = low m2; l3 = low m3; l4 = low m4 } in (
+    let below : AreBelow (2 ^ 51) (canonical l) = record { l0 = least m0; l1 = least m1; l2 = least m2; l3 = least m3; l4 = least m4 } in (
       below,
       settled (value l) (weighed (add64 l0 19 % 2 ^ 51) (add64 l1 o0 % 2 ^ 51) (add64 l2 o1 % 2 ^ 51) (add64 l3 o2 % 2 ^ 51) (add64 l4 o3 % 2 ^ 51)) (value (canonical l)) over (m4 / 2 ^ 51)
-          first (bounded _ _ _ _ _ (low _) (low _) (low _) (low _) (low _)) (ap (λ (n : ℕ). value l + n) (sym times) ∙ second)
+          first (bounded _ _ _ _ _ (least _) (least _) (least _) (least _) (least _)) (ap (λ (n : ℕ). value l + n) (sym times) ∙ second)
           (bounded _ _ _ _ _ below.l0 below.l1 below.l2 below.l3 below.l4) (tight_value l0 l1 l2 l3 l4 h.l0 h.l1 h.l2 h.l3 h.l4),
     )
 

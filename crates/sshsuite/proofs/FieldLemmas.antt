@@ -7,7 +7,7 @@ use Rattle.std.specs.Prelude.{slice_index}
 use Rattle.sshsuite.specs.FieldElement.{above, add, carried, carried_once, dot, less, limbs_of, loose_difference, loose_sum, mul, scaled, squared, sub, three, with_carry}
 use Rattle.sshsuite.specs.Limbs.{add64, add128, mul64, mul128}
 use Rattle.sshsuite.specs.FieldValues.{AreBelow, field, value, weighed}
-use Rattle.sshsuite.proofs.LimbLemmas.{at_places, moved}
+use Rattle.sshsuite.proofs.LimbLemmas.{at_places, moved, whole64}
 
 -- one pass of carries
 pass : (c0 c1 c2 c3 c4 q0 q1 q2 q3 q4 r0 r1 r2 r3 r4 : ℕ) → c0 ≡ 2 ^ 51 * q0 + r0 → c1 + q0 ≡ 2 ^ 51 * q1 + r1 → c2 + q1 ≡ 2 ^ 51 * q2 + r2
@@ -29,7 +29,7 @@ low51 x = omega arith
 parts : (x : ℕ) → x ≡ 2 ^ 51 * (x / 2 ^ 51) + x % 2 ^ 51
 parts x = omega arith
 
-multiple : (x y q : ℕ) → x ≡ y + field * q → x % field ≡ y % field
+pub multiple : (x y q : ℕ) → x ≡ y + field * q → x % field ≡ y % field
 multiple x y q e = omega arith
 
 together : (v r0 r1 r2 r3 r4 q d0 h f0 last : ℕ) → v ≡ weighed r0 r1 r2 r3 r4 + (field + 19) * q → d0 ≡ r0 + 19 * q → d0 ≡ 2 ^ 51 * h + f0 → last ≡ r1 + h
@@ -355,11 +355,7 @@ pub record AreTight (a : List ℕ) : Type 0 where
 below_tight : (a : List ℕ) → AreTight a → AreBelow (2 ^ 52) a
 below_tight a h = record { l0 = h.l0; l1 = omega (arith, h.l1); l2 = omega (arith, h.l2); l3 = omega (arith, h.l3); l4 = omega (arith, h.l4) }
 
--- a sum that is taken modulo 2^64 and isn't more
-whole64 : (x y : ℕ) → x < 2 ^ 63 → y < 2 ^ 63 → add64 x y ≡ x + y
-whole64 x y h k = omega arith
-
-least : (x : ℕ) → x % 2 ^ 51 < 2 ^ 51
+pub least : (x : ℕ) → x % 2 ^ 51 < 2 ^ 51
 least x = omega arith
 
 lowered : (v r0 r1 r2 r3 r4 q d0 : ℕ) → v ≡ weighed r0 r1 r2 r3 r4 + (field + 19) * q → d0 ≡ r0 + 19 * q → v ≡ weighed d0 r1 r2 r3 r4 + field * q

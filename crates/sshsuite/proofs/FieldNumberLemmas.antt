@@ -7,7 +7,7 @@ use Rattle.sshsuite.specs.Bits.{number_of_32}
 use Rattle.sshsuite.specs.FieldElement.{add, decode, eleventh, encode, inverse, loose_difference, loose_sum, mul, none, one, root_power, scaled, squared, squares, sub, to_50, to_250}
 use Rattle.sshsuite.proofs.EncodingLemmas.{decode_value, encode_value}
 use Rattle.sshsuite.proofs.WordLemmas.{AreWords}
-use Rattle.sshsuite.proofs.FieldLemmas.{add_value, difference_loose, mul_loose, scaled_loose, square_loose, sub_value, sum_loose, tight, wider}
+use Rattle.sshsuite.proofs.FieldLemmas.{add_value, difference_loose, mul_loose, multiple, scaled_loose, square_loose, sub_value, sum_loose, tight, wider}
 use Rattle.sshsuite.specs.FieldBytes.{bytes_of_number}
 use Rattle.sshsuite.specs.FieldNumbers.{HasNumber, minus, plus, power, reciprocal, times}
 use Rattle.sshsuite.specs.FieldValues.{AreBelow, field, value}
@@ -30,9 +30,6 @@ sub_number a b m n h k =
     let out = sub_value a b h.below k.below in
     record { below = out.0; number = differences (value (sub a b)) (value a) (value b) m n out.1 h.number k.number }
 
-remainder : (x y q : ℕ) → x ≡ y + field * q → x % field ≡ y % field
-remainder x y q e = omega arith
-
 parted : (x y q r m n : ℕ) → x ≡ field * q + m → y ≡ field * r + n → x * y ≡ m * n + field * (q * y + m * r)
 parted x y q r m n h k = rw (h, k) (omega arith)
 
@@ -41,7 +38,7 @@ parts x m h = omega arith
 
 pub products : (x y m n : ℕ) → x % field ≡ m → y % field ≡ n → x * y % field ≡ m * n % field
 products x y m n h k =
-    remainder (x * y) (m * n) (x / field * y + m * (y / field)) (parted x y (x / field) (y / field) m n (parts x m h) (parts y n k))
+    multiple (x * y) (m * n) (x / field * y + m * (y / field)) (parted x y (x / field) (y / field) m n (parts x m h) (parts y n k))
 
 -- the limbs are below a bound, and of this number
 pub record HasBelow (k : ℕ) (a : List ℕ) (n : ℕ) : Type 0 where

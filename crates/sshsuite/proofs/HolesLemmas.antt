@@ -7,7 +7,8 @@ use Rattle.std.proofs.Math.Nat.{add-mul, mul_assoc, mul_comm}
 use Rattle.std.specs.Int.Bits.{and_zero_l, xor_zero_l}
 use Rattle.std.specs.Prelude.{bit_and, bit_xor}
 use Rattle.sshsuite.proofs.CarrylessLemmas.{at_none, by_bit, first_linear, first_raised}
-use Rattle.sshsuite.proofs.LinearLemmas.{IsLinear, agree, all_below, apart, at_each, masked_linear, two_bits}
+use Rattle.sshsuite.proofs.LinearLemmas.{IsLinear, agree, apart, masked_linear, two_bits}
+use Rattle.sshsuite.proofs.TestLemmas.{all_below, at_each}
 use Rattle.sshsuite.specs.Carryless.{carryless, each_fifth}
 
 -- a number by digits of five bits, the first the highest

@@ -1,6 +1,6 @@
 -- What is drawn for each purpose, and that both ends of the hybrid come to one secret.
 
-use Rattle.std.proofs.Common.{◌≡◌, ◌∙◌, ℕ, ◌+◌, Bool, true, false, List, [], ◌∷◌, ◌++◌, Option, None, Some, ap, arith, cond, drop, eqb, length, option_map, refl, suc, sym, take, zero}
+use Rattle.std.proofs.Common.{◌≡◌, ◌∙◌, ℕ, ◌+◌, List, [], ◌∷◌, ◌++◌, Option, Some, ap, arith, drop, eqb, length, refl, suc, sym, take, zero}
 use Rattle.std.specs.Prelude.{◌&&◌}
 use Rattle.std.proofs.lemmas.Bool.{eq-eqb}
 use Rattle.std.proofs.lemmas.List.{drop_at, length-append, take_at}
@@ -11,10 +11,11 @@ use Rattle.sshpacket.specs.Suite.{ResponseData}
 use Rattle.sshsuite.specs.Curve25519.{base_point, x25519}
 use Rattle.sshsuite.specs.CurveBytes.{length_x25519}
 use Rattle.sshsuite.specs.Expansion.{expanded, expansion_input, purpose_number}
-use Rattle.sshsuite.specs.Hybrid.{both_secrets, hybrid_respond, hybrid_share, hybrid_shared, response_of}
+use Rattle.sshsuite.specs.Hybrid.{both_secrets, hybrid_respond, hybrid_share, hybrid_shared}
 use Rattle.sshsuite.specs.HybridAgreement.{Decrypts, Meets, client_keys, made_for}
 use Rattle.sshsuite.specs.declared.expansion.Purpose.{Purpose}
 use Rattle.sshsuite.specs.declared.expansion.Purpose.TheVariants.{Curve25519, Group14, HybridClient, HybridServer}
+use Rattle.sshsuite.specs.HybridLaws.{guarded, response_parts}
 
 -- a purpose by its number
 abbrev purpose_of : ℕ → Purpose
@@ -55,20 +56,6 @@ inputs_apart random other one two e = (
   sym (own_number one) ∙ (ap purpose_of (sym (last_is random (purpose_number one)) ∙ (ap last_of e ∙ last_is other (purpose_number two))) ∙ own_number two),
 )
 
-guarded : {A : Type 0} (b : Bool) (o : Option A) (y : A) → cond b o None ≡ Some y → o ≡ Some y
-guarded true o y e = e
-guarded false o y e = cc
-
-some_one : (r other : ResponseData) → ◌≡◌ {A = Option ResponseData} (Some r) (Some other) → r ≡ other
-some_one r other e = cc
-
-parts_of : (own : List ℕ) (o : Option (List ℕ)) (r : ResponseData) → option_map (response_of own) o ≡ Some r → (own ≡ r.share) × (o ≡ Some r.shared)
-unfolding response_of
-parts_of own None r e = cc
-parts_of own (Some body) r e =
-    let is = some_one _ r e in
-    (ap (λ (x : ResponseData). x.share) is, ap (λ (x : ResponseData). Some x.shared) is)
-
 module _ (client server : List ℕ) where
   abbrev key : List ℕ
   key = (client_keys client).encapsulation_key
@@ -103,7 +90,7 @@ module _ (client server : List ℕ) where
   unfolding hybrid_respond hybrid_share
   answer_is r e =
       let share = key ++ client_point in
-      let parts = parts_of ((encapsulated (take 1184 share) (expanded server HybridServer 0)).ciphertext ++ server_point) (secret_by (take 1184 share) (drop 1184 share)) r
+      let parts = response_parts ((encapsulated (take 1184 share) (expanded server HybridServer 0)).ciphertext ++ server_point) (secret_by (take 1184 share) (drop 1184 share)) r
       (guarded (eqb (length share) 1216 && is_key (take 1184 share)) _ r e) in (
         sym parts.0 ∙ ap (λ (k : List ℕ). (encapsulated k (expanded server HybridServer 0)).ciphertext ++ server_point) front_key,
         ap (λ (k : List ℕ). secret_by k client_point) (sym front_key) ∙ (ap (secret_by (take 1184 share)) (sym back_point) ∙ parts.1),

@@ -1,3 +1,4 @@
+pub mod TestLemmas
 pub mod ConstantTimeLemmas
 pub mod SecretLemmas
 pub mod WordLemmas

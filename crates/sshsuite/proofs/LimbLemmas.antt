@@ -1,8 +1,9 @@
 -- The five sums of a product of numbers of five limbs.
 
-use Rattle.std.proofs.Common.{◌≡◌, ℕ, ◌+◌, ◌*◌, ◌<◌, List, [], ◌∷◌, arith}
+use Rattle.std.proofs.Common.{◌≡◌, ℕ, ◌+◌, ◌*◌, ◌^◌, ◌<◌, List, [], ◌∷◌, arith}
 use Rattle.std.specs.Prelude.{slice_index}
 use Rattle.sshsuite.specs.FieldValues.{AreBelow}
+use Rattle.sshsuite.specs.Limbs.{add64}
 
 -- the sum of the products at each place
 abbrev pub at_places : List ℕ → List ℕ → ℕ
@@ -15,6 +16,10 @@ pub record AreFolded (k : ℕ) (a b : List ℕ) (c0 c1 c2 c3 c4 : ℕ) : Type 0 
   pub p2 : c2 ≡ slice_index a 0 * slice_index b 2 + slice_index a 1 * slice_index b 1 + slice_index a 2 * slice_index b 0 + k * (slice_index a 3 * slice_index b 4) + k * (slice_index a 4 * slice_index b 3)
   pub p3 : c3 ≡ slice_index a 0 * slice_index b 3 + slice_index a 1 * slice_index b 2 + slice_index a 2 * slice_index b 1 + slice_index a 3 * slice_index b 0 + k * (slice_index a 4 * slice_index b 4)
   pub p4 : c4 ≡ slice_index a 0 * slice_index b 4 + slice_index a 1 * slice_index b 3 + slice_index a 2 * slice_index b 2 + slice_index a 3 * slice_index b 1 + slice_index a 4 * slice_index b 0
+
+-- a sum that is taken modulo 2^64 and isn't more
+pub whole64 : (x y : ℕ) → x < 2 ^ 63 → y < 2 ^ 63 → add64 x y ≡ x + y
+whole64 x y h k = omega arith
 
 pub moved : (k x y s : ℕ) → s ≡ k * y → x * s ≡ k * (x * y)
 moved k x y s e = rw e (omega arith)

@@ -1,7 +1,6 @@
 -- Linear maps over GF(2): two that agree on powers of 2 are one.
 
-use Rattle.std.proofs.Common.{◌≡◌, ℕ, zero, suc, ◌+◌, ◌*◌, ◌/◌, ◌%◌, ◌^◌, ◌<◌, inl, inr, Bool, true, false, refl, sym, ap, ap₂, ◌∙◌, arith, cond, eqb}
-use Rattle.std.proofs.lemmas.Bool.{cases_Bool, eqb-false, eqb-true}
+use Rattle.std.proofs.Common.{◌≡◌, ℕ, zero, suc, ◌+◌, ◌*◌, ◌/◌, ◌%◌, ◌^◌, ◌<◌, refl, sym, ap, ap₂, ◌∙◌, arith}
 use Rattle.std.proofs.lemmas.Nat.{and_block, and_comm, and_le_l, div_below, mod_below, pow_pos, shr_split, xor_block, xor_comm, xor_mod, xor_shr}
 use Rattle.std.specs.Int.Bits.{and_zero_l, xor_assoc, xor_zero_l, xor_zero_r}
 use Rattle.std.specs.Prelude.{bit_and, bit_xor}
@@ -64,27 +63,6 @@ agree g h (suc m) lg lh none e z low =
 
     parted : (m z : ℕ) → z ≡ bit_xor (z / 2 ^ m * 2 ^ m) (z % 2 ^ m)
     parted m z = sym (apart m (z / 2 ^ m) (z % 2 ^ m) (mod_below z (2 ^ m) (pow_pos m)) ∙ shr_split z m)
-
--- a test of all numbers below another
-abbrev pub all_below : ℕ → (ℕ → Bool) → Bool
-all_below zero test = true
-all_below (suc n) test = cond (test n) (all_below n test) false
-
-guarded : (a b : Bool) → cond a b false ≡ true → (a ≡ true) × (b ≡ true)
-guarded true b e = (refl, e)
-guarded false b e = cc
-
-pub at_each : (n : ℕ) (test : ℕ → Bool) → all_below n test ≡ true → (k : ℕ) → k < n → test k ≡ true
-at_each zero test e k h = absurd (omega arith)
-at_each (suc n) test e k h =
-    let parts = guarded (test n) (all_below n test) e in
-    elim (cases_Bool (eqb k n)) [
-      | inl is ↦ let at : k ≡ n = eqb-true k n is in rw at parts.0
-      | inr isnt ↦ let off = eqb-false k n isnt in at_each n test parts.1 k (below k n h off)
-    ]
-  where
-    below : (k n : ℕ) → k < suc n → (k ≡ n → ⊥) → k < n
-    below k n h off = omega arith
 
 pub two_bits : (s t : ℕ) → s < 2 → t < 2 → (s + t) % 2 ≡ bit_xor s t
 two_bits zero zero h k = refl

@@ -4,12 +4,13 @@
 use Rattle.std.proofs.Common.{◌≡◌, ℕ, zero, suc, ◌+◌, ◌*◌, ◌/◌, ◌%◌, ◌^◌, ◌<◌, ◌≤◌, Bool, true, List, [], ◌∷◌, length, refl, sym, ap, ap₂, ◌∙◌, arith, eqb}
 use Rattle.std.proofs.lemmas.Bool.{eqb-true}
 use Rattle.std.proofs.lemmas.Nat.{and_le_r, pow-add, pow_pos, shl_below, xor_lt, xor_mod}
-use Rattle.std.proofs.Math.Nat.{mul_assoc, pow-le-pow_right}
+use Rattle.std.proofs.Math.Nat.{mul_assoc}
 use Rattle.std.specs.Int.Bits.{and_zero_l, xor_assoc, xor_zero_l, xor_zero_r}
 use Rattle.std.specs.Prelude.{bit_and, bit_xor, slice_index}
-use Rattle.sshsuite.proofs.CarrylessLemmas.{at_none, first_linear, first_raised, second_linear, second_raised, words_bound}
+use Rattle.sshsuite.proofs.CarrylessLemmas.{at_none, first_linear, first_raised, second_linear, second_raised, widened, words_bound}
 use Rattle.sshsuite.proofs.HolesLemmas.{IsHoled, fifth_holed, holed_below, holed_product, wide_fifths}
-use Rattle.sshsuite.proofs.LinearLemmas.{IsLinear, agree, all_below, at_each, exchanged, lowered, masked_linear, raised, raised_within, same_linear, sum_linear, then_linear}
+use Rattle.sshsuite.proofs.LinearLemmas.{IsLinear, agree, exchanged, lowered, masked_linear, raised, raised_within, same_linear, sum_linear, then_linear}
+use Rattle.sshsuite.proofs.TestLemmas.{all_below, at_each}
 use Rattle.sshsuite.specs.Carryless.{carryless, each_fifth, fifths}
 
 -- the sum of what stands at the places, from the lowest on
@@ -92,9 +93,6 @@ masked_added_at (suc i) (c ∷ cs) ds = ap (λ (ns : List ℕ). bit_and c wide_f
 abbrev EachHoled : List ℕ → Type 0
 EachHoled [] = Unit {0}
 EachHoled (a ∷ es) = IsHoled a × EachHoled es
-
-widened : (p v w : ℕ) → p < 2 ^ v → v ≤ w → p < 2 ^ w
-widened p v w h l = let one : 1 ≤ 2 = omega arith in let top : 2 ^ v ≤ 2 ^ w = pow-le-pow_right one l in omega (arith, h, top)
 
 value_below : (es : List ℕ) → EachHoled es → value es < 2 ^ (65 + length es)
 unfolding value

@@ -12,7 +12,7 @@ use Rattle.sshsuite.specs.Bits.{word_at}
 use Rattle.sshsuite.specs.FieldValues.{AreBelow}
 use Rattle.sshsuite.specs.Limbs.{add64, mul64, reduced_once}
 use Rattle.sshsuite.specs.Poly1305.{accumulated, add, block_at, block_limbs, canonical, carried, clamped_r, dot, limbs_of, mul, packed, s_of, sum_to, tag_of}
-use Rattle.sshsuite.proofs.LimbLemmas.{at_places, folded}
+use Rattle.sshsuite.proofs.LimbLemmas.{at_places, folded, whole64}
 use Rattle.sshsuite.proofs.WordLemmas.{or_high, word_low, zero_bytes}
 use Rattle.sshsuite.specs.PolyNumbers.{accumulator, block_number, mac, modulus, number_of_16, r_number, s_number}
 
@@ -61,9 +61,6 @@ topped_limbs low high h k =
     )
 
 -- Carries.
-whole : (x y : ℕ) → x < 2 ^ 63 → y < 2 ^ 63 → add64 x y ≡ x + y
-whole x y h k = omega arith
-
 parts : (x : ℕ) → x ≡ 2 ^ 26 * (x / 2 ^ 26) + x % 2 ^ 26
 parts x = omega arith
 
@@ -94,19 +91,19 @@ module _ (a : List ℕ) (h : AreBelow (2 ^ 61) a) where
       let e4 : ℕ = add64 (slice_index a 4) (e3 / 2 ^ 26) in
       let d0 : ℕ = add64 (c0 % 2 ^ 26) (mul64 (e4 / 2 ^ 26) 5) in
       let f1 : ℕ = add64 (e1 % 2 ^ 26) (d0 / 2 ^ 26) in
-      let w1 : e1 ≡ slice_index a 1 + c0 / 2 ^ 26 = whole (slice_index a 1) (c0 / 2 ^ 26) (omega (arith, h.l1)) (omega (arith, h.l0)) in
+      let w1 : e1 ≡ slice_index a 1 + c0 / 2 ^ 26 = whole64 (slice_index a 1) (c0 / 2 ^ 26) (omega (arith, h.l1)) (omega (arith, h.l0)) in
       let b1 : e1 < 2 ^ 62 = omega (arith, w1, h.l0, h.l1) in
-      let w2 : e2 ≡ slice_index a 2 + e1 / 2 ^ 26 = whole (slice_index a 2) (e1 / 2 ^ 26) (omega (arith, h.l2)) (omega (arith, b1)) in
+      let w2 : e2 ≡ slice_index a 2 + e1 / 2 ^ 26 = whole64 (slice_index a 2) (e1 / 2 ^ 26) (omega (arith, h.l2)) (omega (arith, b1)) in
       let b2 : e2 < 2 ^ 62 = omega (arith, w2, h.l2, b1) in
-      let w3 : e3 ≡ slice_index a 3 + e2 / 2 ^ 26 = whole (slice_index a 3) (e2 / 2 ^ 26) (omega (arith, h.l3)) (omega (arith, b2)) in
+      let w3 : e3 ≡ slice_index a 3 + e2 / 2 ^ 26 = whole64 (slice_index a 3) (e2 / 2 ^ 26) (omega (arith, h.l3)) (omega (arith, b2)) in
       let b3 : e3 < 2 ^ 62 = omega (arith, w3, h.l3, b2) in
-      let w4 : e4 ≡ slice_index a 4 + e3 / 2 ^ 26 = whole (slice_index a 4) (e3 / 2 ^ 26) (omega (arith, h.l4)) (omega (arith, b3)) in
+      let w4 : e4 ≡ slice_index a 4 + e3 / 2 ^ 26 = whole64 (slice_index a 4) (e3 / 2 ^ 26) (omega (arith, h.l4)) (omega (arith, b3)) in
       let b4 : e4 < 2 ^ 62 = omega (arith, w4, h.l4, b3) in
       let m : mul64 (e4 / 2 ^ 26) 5 ≡ 5 * (e4 / 2 ^ 26) = omega (arith, b4) in
       let n : 5 * (e4 / 2 ^ 26) < 2 ^ 39 - 2 ^ 26 = omega (arith, b4) in
-      let x0 : d0 ≡ c0 % 2 ^ 26 + 5 * (e4 / 2 ^ 26) = whole (c0 % 2 ^ 26) (mul64 (e4 / 2 ^ 26) 5) (omega arith) (omega (arith, m, n)) ∙ ap (λ (k : ℕ). c0 % 2 ^ 26 + k) m in
+      let x0 : d0 ≡ c0 % 2 ^ 26 + 5 * (e4 / 2 ^ 26) = whole64 (c0 % 2 ^ 26) (mul64 (e4 / 2 ^ 26) 5) (omega arith) (omega (arith, m, n)) ∙ ap (λ (k : ℕ). c0 % 2 ^ 26 + k) m in
       let y0 : d0 < 2 ^ 39 = omega (arith, x0, n) in
-      let x1 : f1 ≡ e1 % 2 ^ 26 + d0 / 2 ^ 26 = whole (e1 % 2 ^ 26) (d0 / 2 ^ 26) (omega arith) (omega (arith, y0)) in
+      let x1 : f1 ≡ e1 % 2 ^ 26 + d0 / 2 ^ 26 = whole64 (e1 % 2 ^ 26) (d0 / 2 ^ 26) (omega arith) (omega (arith, y0)) in
       let all = pass c0 (slice_index a 1) (slice_index a 2) (slice_index a 3) (slice_index a 4) (c0 / 2 ^ 26) (e1 / 2 ^ 26) (e2 / 2 ^ 26) (e3 / 2 ^ 26) (e4 / 2 ^ 26)
       (c0 % 2 ^ 26) (e1 % 2 ^ 26) (e2 % 2 ^ 26) (e3 % 2 ^ 26) (e4 % 2 ^ 26) d0 f1
       (parts c0) (sym w1 ∙ parts e1) (sym w2 ∙ parts e2) (sym w3 ∙ parts e3) (sym w4 ∙ parts e4) x0 x1 in (
@@ -127,12 +124,12 @@ sums x0 x1 x2 x3 x4 h0 h1 h2 h3 h4 =
     let s2 : x2 % 2 ^ 64 ≡ x2 = omega (arith, h2) in
     let s3 : x3 % 2 ^ 64 ≡ x3 = omega (arith, h3) in
     let s4 : x4 % 2 ^ 64 ≡ x4 = omega (arith, h4) in
-    let t1 : add64 (x0 % 2 ^ 64) (x1 % 2 ^ 64) ≡ x0 + x1 = whole (x0 % 2 ^ 64) (x1 % 2 ^ 64) (omega (arith, s0, h0)) (omega (arith, s1, h1)) ∙ omega (arith, s0, s1) in
+    let t1 : add64 (x0 % 2 ^ 64) (x1 % 2 ^ 64) ≡ x0 + x1 = whole64 (x0 % 2 ^ 64) (x1 % 2 ^ 64) (omega (arith, s0, h0)) (omega (arith, s1, h1)) ∙ omega (arith, s0, s1) in
     let t2 : add64 (add64 (x0 % 2 ^ 64) (x1 % 2 ^ 64)) (x2 % 2 ^ 64) ≡ x0 + x1 + x2
-    = whole (add64 (x0 % 2 ^ 64) (x1 % 2 ^ 64)) (x2 % 2 ^ 64) (omega (arith, t1, h0, h1)) (omega (arith, s2, h2)) ∙ omega (arith, t1, s2) in
+    = whole64 (add64 (x0 % 2 ^ 64) (x1 % 2 ^ 64)) (x2 % 2 ^ 64) (omega (arith, t1, h0, h1)) (omega (arith, s2, h2)) ∙ omega (arith, t1, s2) in
     let t3 : add64 (add64 (add64 (x0 % 2 ^ 64) (x1 % 2 ^ 64)) (x2 % 2 ^ 64)) (x3 % 2 ^ 64) ≡ x0 + x1 + x2 + x3
-    = whole (add64 (add64 (x0 % 2 ^ 64) (x1 % 2 ^ 64)) (x2 % 2 ^ 64)) (x3 % 2 ^ 64) (omega (arith, t2, h0, h1, h2)) (omega (arith, s3, h3)) ∙ omega (arith, t2, s3) in
-    whole (add64 (add64 (add64 (x0 % 2 ^ 64) (x1 % 2 ^ 64)) (x2 % 2 ^ 64)) (x3 % 2 ^ 64)) (x4 % 2 ^ 64) (omega (arith, t3, h0, h1, h2, h3)) (omega (arith, s4, h4))
+    = whole64 (add64 (add64 (x0 % 2 ^ 64) (x1 % 2 ^ 64)) (x2 % 2 ^ 64)) (x3 % 2 ^ 64) (omega (arith, t2, h0, h1, h2)) (omega (arith, s3, h3)) ∙ omega (arith, t2, s3) in
+    whole64 (add64 (add64 (add64 (x0 % 2 ^ 64) (x1 % 2 ^ 64)) (x2 % 2 ^ 64)) (x3 % 2 ^ 64)) (x4 % 2 ^ 64) (omega (arith, t3, h0, h1, h2, h3)) (omega (arith, s4, h4))
     ∙ omega (arith, t3, s4)
 
 dot_value : (a b : List ℕ) → AreBelow (2 ^ 28) a → AreBelow (2 ^ 29) b
@@ -198,11 +195,11 @@ mul_value a b h k =
 sum_value : (a b : List ℕ) → AreCarried (2 ^ 26 + 2 ^ 13) a → AreBelow (2 ^ 26) b → AreBelow (2 ^ 28) (add a b) × (value (add a b) ≡ value a + value b)
 unfolding add
 sum_value a b h k =
-    let e0 : add64 (slice_index a 0) (slice_index b 0) ≡ slice_index a 0 + slice_index b 0 = whole _ _ (omega (arith, h.l0)) (omega (arith, k.l0)) in
-    let e1 : add64 (slice_index a 1) (slice_index b 1) ≡ slice_index a 1 + slice_index b 1 = whole _ _ (omega (arith, h.l1)) (omega (arith, k.l1)) in
-    let e2 : add64 (slice_index a 2) (slice_index b 2) ≡ slice_index a 2 + slice_index b 2 = whole _ _ (omega (arith, h.l2)) (omega (arith, k.l2)) in
-    let e3 : add64 (slice_index a 3) (slice_index b 3) ≡ slice_index a 3 + slice_index b 3 = whole _ _ (omega (arith, h.l3)) (omega (arith, k.l3)) in
-    let e4 : add64 (slice_index a 4) (slice_index b 4) ≡ slice_index a 4 + slice_index b 4 = whole _ _ (omega (arith, h.l4)) (omega (arith, k.l4)) in (
+    let e0 : add64 (slice_index a 0) (slice_index b 0) ≡ slice_index a 0 + slice_index b 0 = whole64 _ _ (omega (arith, h.l0)) (omega (arith, k.l0)) in
+    let e1 : add64 (slice_index a 1) (slice_index b 1) ≡ slice_index a 1 + slice_index b 1 = whole64 _ _ (omega (arith, h.l1)) (omega (arith, k.l1)) in
+    let e2 : add64 (slice_index a 2) (slice_index b 2) ≡ slice_index a 2 + slice_index b 2 = whole64 _ _ (omega (arith, h.l2)) (omega (arith, k.l2)) in
+    let e3 : add64 (slice_index a 3) (slice_index b 3) ≡ slice_index a 3 + slice_index b 3 = whole64 _ _ (omega (arith, h.l3)) (omega (arith, k.l3)) in
+    let e4 : add64 (slice_index a 4) (slice_index b 4) ≡ slice_index a 4 + slice_index b 4 = whole64 _ _ (omega (arith, h.l4)) (omega (arith, k.l4)) in (
       record { l0 = omega (arith, e0, h.l0, k.l0); l1 = omega (arith, e1, h.l1, k.l1); l2 = omega (arith, e2, h.l2, k.l2); l3 = omega (arith, e3, h.l3, k.l3); l4 = omega (arith, e4, h.l4, k.l4) },
       omega (arith, e0, e1, e2, e3, e4),
     )

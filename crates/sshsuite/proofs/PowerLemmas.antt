@@ -3,7 +3,7 @@
 use Rattle.std.proofs.Common.{◌≡◌, ℕ, zero, suc, ◌+◌, ◌-◌, ◌*◌, ◌%◌, ◌^◌, ◌<◌, ◌≤◌, List, length, refl, sym, ap, ◌∙◌, add-one, arith, Bool, true, false, cond, eqb, ltb}
 use Rattle.std.proofs.Math.Nat.{mod-eq_of_lt, pow-suc, pow-zero}
 use Rattle.std.proofs.lemmas.Nat.{mod_below, mul-mod, mul-mod_first, mul-mod_second, pow-add}
-use Rattle.std.proofs.lemmas.Bool.{le-ltb, ltb-true}
+use Rattle.std.proofs.lemmas.Bool.{and_parts, le-ltb, ltb-true}
 use Rattle.std.specs.Prelude.{◌&&◌, Option, None, Some}
 use Rattle.sshsuite.specs.Bits.{bit_at}
 use Rattle.sshsuite.specs.Group14.{generator, is_positive_body, is_within, number_high, peer_number, power, prime}
@@ -179,13 +179,9 @@ two_below = let h = prime_big in rw two_is (omega (arith, h))
 
 small_of : (m n : ℕ) (b c : Bool) → is_within n ≡ c → ◌≡◌ {A = Option ℕ} (Some m) (cond (b && c) (Some n) None) → m < prime
 small_of m n true true is e =
-    let low = ltb-true n (prime - 1) (last (ltb 1 n) (ltb n (prime - 1)) is) in
+    let low = ltb-true n (prime - 1) (and_parts (ltb 1 n) (ltb n (prime - 1)) is).1 in
     let same : m ≡ n = same_some m n e in omega (arith, low, same)
   where
-    last : (x y : Bool) → (x && y) ≡ true → y ≡ true
-    last true y e = e
-    last false y e = cc
-
     same_some : (x y : ℕ) → ◌≡◌ {A = Option ℕ} (Some x) (Some y) → x ≡ y
     same_some x y e = cc
 small_of m n true false is e = cc

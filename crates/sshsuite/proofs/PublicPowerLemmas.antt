@@ -1,6 +1,6 @@
 -- Powers modulo any odd number, divided by a power of 2^8192.
 
-use Rattle.std.proofs.Common.{◌≡◌, ℕ, zero, suc, ◌+◌, ◌-◌, ◌*◌, ◌/◌, ◌%◌, ◌^◌, ◌<◌, ◌≤◌, refl, sym, ap, ap₂, ◌∙◌, add-one, arith, List, Bool, true, false, eqb, length}
+use Rattle.std.proofs.Common.{◌≡◌, ℕ, zero, suc, ◌+◌, ◌-◌, ◌*◌, ◌/◌, ◌%◌, ◌^◌, ◌<◌, ◌≤◌, refl, sym, ap, ap₂, ◌∙◌, add-one, arith, List, eqb, length}
 use Rattle.std.proofs.lemmas.Bool.{eq-eqb, eqb-true}
 use Rattle.std.proofs.Math.Nat.{add-mul-mod_self_left, div-add-mod, div-div-eq-div-mul, mod-eq_of_lt, mul-mod_right, pow-suc, pow-zero}
 use Rattle.std.proofs.lemmas.Nat.{mod-mul-add, mul-mod, mul-mod_first, mul-mod_second, mul-pow, pow-add}
@@ -9,6 +9,7 @@ use Rattle.sshsuite.specs.LongNumbers.{number_of, weight}
 use Rattle.sshsuite.proofs.LongNumberLemmas.{number_all}
 use Rattle.sshsuite.proofs.MontgomeryLemmas.{lowest}
 use Rattle.sshsuite.proofs.PowerLemmas.{cancelled}
+use Rattle.sshsuite.proofs.TestLemmas.{by_both}
 
 -- The inverse of an odd word.
 pub refined_is : (odd y : ℕ) → (odd * (y * ((odd * y % 2 ^ 64 + 2) % 2 ^ 64) % 2 ^ 64) + 1) % 2 ^ 64 ≡ (odd * y + 1) * (odd * y + 1) % 2 ^ 64
@@ -169,11 +170,6 @@ weight_inverse n m e h odd =
     inverse_power (2 ^ (64 * n)) (((m + 1) / 2) ^ (64 * n)) m e h (inverse_power 2 ((m + 1) / 2) m (64 * n) h one)
 
 -- Both sides of a comparison.
-by_both : (x y : Bool) → (x ≡ true → y ≡ true) → (y ≡ true → x ≡ true) → x ≡ y
-by_both true y f g = sym (f refl)
-by_both false true f g = g refl
-by_both false false f g = refl
-
 same_test : (a b c d : ℕ) → (a ≡ b → c ≡ d) → (c ≡ d → a ≡ b) → eqb a b ≡ eqb c d
 same_test a b c d f g = by_both (eqb a b) (eqb c d) (λ h. eq-eqb c d (f (eqb-true a b h))) (λ h. eq-eqb a b (g (eqb-true c d h)))
 

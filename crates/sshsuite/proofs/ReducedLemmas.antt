@@ -7,7 +7,8 @@ use Rattle.std.specs.Int.Bits.{xor_zero_r}
 use Rattle.std.specs.Prelude.{bit_xor}
 use Rattle.std.proofs.Math.Nat.{mul_assoc, pow-le-pow_right}
 use Rattle.sshsuite.proofs.CarrylessLemmas.{blocks_bound}
-use Rattle.sshsuite.proofs.LinearLemmas.{IsLinear, apart, agree, all_below, at_each, exchanged, lowered, raised, raised_within, same_linear, sum_linear, then_linear}
+use Rattle.sshsuite.proofs.LinearLemmas.{IsLinear, apart, agree, exchanged, lowered, raised, raised_within, same_linear, sum_linear, then_linear}
+use Rattle.sshsuite.proofs.TestLemmas.{all_below, at_each}
 use Rattle.sshsuite.specs.Carryless.{carryless, carryless_to}
 use Rattle.sshsuite.specs.Ghash.{shifted, shifted_by, times, times_to}
 

@@ -1,7 +1,7 @@
 -- What a public key and a signature of RSA are read as, and that nothing else is read.
 
 use Rattle.std.proofs.Common.{◌≡◌, ℕ, ◌^◌, ◌<◌, List, [], ◌∷◌, ◌++◌, length, ap, refl, sym, ◌∙◌, arith, Bool, true, false, cond, eqb, Ok, Err}
-use Rattle.std.proofs.lemmas.Bool.{eqb-true, false≢true}
+use Rattle.std.proofs.lemmas.Bool.{and_parts, eqb-true, false≢true}
 use Rattle.std.proofs.lemmas.List.{append-nil}
 use Rattle.std.proofs.lemmas.Slice.Eq.{bytes_eq-Decides}
 use Rattle.std.specs.Prelude.{codes, ◌&&◌, ◌||◌, Result}
@@ -13,11 +13,9 @@ use Rattle.sshwire.specs.declared.fault.WireFault.TheVariants.{NotCanonical}
 use Rattle.sshwire.proofs.TypeLemmas.{bind_ok, bytes_after, string_complete, string_taken}
 use Rattle.sshsuite.specs.Deployed.{verify}
 use Rattle.sshsuite.specs.Rsa.{digest_info, is_rsa, is_rsa_256, is_rsa_512, is_signed_by, key_blob, key_in, rsa_verify, signature_blob, signature_in, verifies_by}
+use Rattle.sshsuite.specs.SealingLaws.{same_bytes}
 
 -- Names.
-same_bytes : (xs : List ℕ) → bytes_eq xs xs ≡ true
-same_bytes xs = (bytes_eq-Decides xs xs).1 refl
-
 name_short : (alg : List ℕ) → is_rsa alg ≡ true → length alg < 2 ^ 32
 unfolding is_rsa is_rsa_256 is_rsa_512
 name_short alg e = either (bytes_eq alg (codes "rsa-sha2-256")) (bytes_eq alg (codes "rsa-sha2-512")) refl refl e
@@ -62,14 +60,6 @@ no_bytes : (xs : List ℕ) → length xs ≡ 0 → xs ≡ []
 no_bytes [] e = refl
 no_bytes (x ∷ xs) e = absurd (omega (arith, e))
 
-first_true : (x y : Bool) → (x && y) ≡ true → x ≡ true
-first_true true y e = refl
-first_true false y e = e
-
-second_true : (x y : Bool) → (x && y) ≡ true → y ≡ true
-second_true true y e = e
-second_true false y e = absurd (false≢true e)
-
 given_ok : {A : Type 0} (b : Bool) (x y : A) → cond b (Ok x) (Err NotCanonical) ≡ Ok y → (b ≡ true) × (x ≡ y)
 given_ok true x y e = (refl, cc)
 given_ok false x y e = cc
@@ -93,8 +83,8 @@ key_taken blob key h e =
     let h1 = rest_of blob x.0 x.1 h t1.bytes_are in
     let t2 = string_taken x.1 y.0 y.1 h1 b2.1 in
     let t3 = string_taken y.1 z.0 z.1 (rest_of x.1 y.0 y.1 h1 t2.bytes_are) b3.1 in
-    let name : x.0 ≡ codes "ssh-rsa" = (bytes_eq-Decides x.0 (codes "ssh-rsa")).0 (first_true (bytes_eq x.0 (codes "ssh-rsa")) (eqb (length z.1) 0) g.0) in
-    let none : z.1 ≡ [] = no_bytes z.1 (eqb-true (length z.1) 0 (second_true (bytes_eq x.0 (codes "ssh-rsa")) (eqb (length z.1) 0) g.0)) in
+    let name : x.0 ≡ codes "ssh-rsa" = (bytes_eq-Decides x.0 (codes "ssh-rsa")).0 (and_parts (bytes_eq x.0 (codes "ssh-rsa")) (eqb (length z.1) 0) g.0).0 in
+    let none : z.1 ≡ [] = no_bytes z.1 (eqb-true (length z.1) 0 (and_parts (bytes_eq x.0 (codes "ssh-rsa")) (eqb (length z.1) 0) g.0).1) in
     let end : y.1 ≡ string z.0 = t3.bytes_are ∙ ap (λ (t : List ℕ). string z.0 ++ t) none ∙ append-nil (string z.0) in
     let middle : x.1 ≡ string y.0 ++ string z.0 = t2.bytes_are ∙ ap (λ (t : List ℕ). string y.0 ++ t) end in
     t1.bytes_are ∙ ap (λ (t : List ℕ). string x.0 ++ t) middle ∙ ap (λ (t : List ℕ). string t ++ (string y.0 ++ string z.0)) name ∙ ap (λ (k : List ℕ × List ℕ). key_blob k.0 k.1) g.1
@@ -110,8 +100,8 @@ signature_taken alg found s h e =
     let g = given_ok (bytes_eq x.0 alg && eqb (length y.1) 0) y.0 s b2.2 in
     let t1 = string_taken found x.0 x.1 h b1.1 in
     let t2 = string_taken x.1 y.0 y.1 (rest_of found x.0 x.1 h t1.bytes_are) b2.1 in
-    let name : x.0 ≡ alg = (bytes_eq-Decides x.0 alg).0 (first_true (bytes_eq x.0 alg) (eqb (length y.1) 0) g.0) in
-    let none : y.1 ≡ [] = no_bytes y.1 (eqb-true (length y.1) 0 (second_true (bytes_eq x.0 alg) (eqb (length y.1) 0) g.0)) in
+    let name : x.0 ≡ alg = (bytes_eq-Decides x.0 alg).0 (and_parts (bytes_eq x.0 alg) (eqb (length y.1) 0) g.0).0 in
+    let none : y.1 ≡ [] = no_bytes y.1 (eqb-true (length y.1) 0 (and_parts (bytes_eq x.0 alg) (eqb (length y.1) 0) g.0).1) in
     let end : x.1 ≡ string y.0 = t2.bytes_are ∙ ap (λ (t : List ℕ). string y.0 ++ t) none ∙ append-nil (string y.0) in
     t1.bytes_are ∙ ap (λ (t : List ℕ). string x.0 ++ t) end ∙ ap (λ (t : List ℕ). string t ++ string y.0) name ∙ ap (λ (t : List ℕ). string alg ++ string t) g.1
 

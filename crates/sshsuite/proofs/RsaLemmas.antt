@@ -1,7 +1,7 @@
 -- Keys and signatures by RSA.
 
 use Rattle.std.proofs.Common.{◌≡◌, ℕ, suc, [], ◌∷◌, ◌+◌, ◌%◌, ◌^◌, ◌<◌, ◌≤◌, List, length, arith, refl, Bool, true, false, cond, eqb, inl, inr, leb}
-use Rattle.std.proofs.lemmas.Bool.{cases_lt, cond_both, eqb-true, false≢true, leb-true}
+use Rattle.std.proofs.lemmas.Bool.{and_parts, cases_lt, cond_both, eqb-true, leb-true}
 use Rattle.std.specs.Prelude.{◌&&◌, Option, None, Some, slice_index}
 use Rattle.sshsuite.specs.Group14.{number_high}
 use Rattle.sshsuite.specs.Rsa.{digits, is_exponent, is_modulus}
@@ -24,14 +24,6 @@ room_for bytes n info same long short h =
     ]
 
 -- What is known of a modulus and of an exponent that were read.
-first : (x y : Bool) → (x && y) ≡ true → x ≡ true
-first true y e = refl
-first false y e = e
-
-second : (x y : Bool) → (x && y) ≡ true → y ≡ true
-second true y e = e
-second false y e = absurd (false≢true e)
-
 given : (b : Bool) (m n : ℕ) → ◌≡◌ {A = Option ℕ} (Some m) (cond b (Some n) None) → (b ≡ true) × (m ≡ n)
 given true m n e = (refl, some_same m n e)
   where
@@ -47,34 +39,34 @@ unfolding is_modulus
 modulus_odd digits m e =
     let n : ℕ = number_high digits in
     let is = given (is_modulus digits) m n e in
-    rw is.1 (eqb-true (n % 2) 1 (second (leb (2 ^ 2047) n) (eqb (n % 2) 1) (second (leb (length digits) 1024) (leb (2 ^ 2047) n && eqb (n % 2) 1) is.0)))
+    rw is.1 (eqb-true (n % 2) 1 (and_parts (leb (2 ^ 2047) n) (eqb (n % 2) 1) (and_parts (leb (length digits) 1024) (leb (2 ^ 2047) n && eqb (n % 2) 1) is.0).1).1)
 
 pub modulus_long : (digits : List ℕ) (m : ℕ) → ◌≡◌ {A = Option ℕ} (Some m) (cond (is_modulus digits) (Some (number_high digits)) None) → 2 ^ 2047 ≤ m
 unfolding is_modulus
 modulus_long digits m e =
     let n : ℕ = number_high digits in
     let is = given (is_modulus digits) m n e in
-    rw is.1 (leb-true (2 ^ 2047) n (first (leb (2 ^ 2047) n) (eqb (n % 2) 1) (second (leb (length digits) 1024) (leb (2 ^ 2047) n && eqb (n % 2) 1) is.0)))
+    rw is.1 (leb-true (2 ^ 2047) n (and_parts (leb (2 ^ 2047) n) (eqb (n % 2) 1) (and_parts (leb (length digits) 1024) (leb (2 ^ 2047) n && eqb (n % 2) 1) is.0).1).0)
 
 pub modulus_short : (digits : List ℕ) (m : ℕ) → ◌≡◌ {A = Option ℕ} (Some m) (cond (is_modulus digits) (Some (number_high digits)) None) → length digits ≤ 1024
 unfolding is_modulus
 modulus_short digits m e =
     let n : ℕ = number_high digits in
-    let is = given (is_modulus digits) m n e in leb-true (length digits) 1024 (first (leb (length digits) 1024) (leb (2 ^ 2047) n && eqb (n % 2) 1) is.0)
+    let is = given (is_modulus digits) m n e in leb-true (length digits) 1024 (and_parts (leb (length digits) 1024) (leb (2 ^ 2047) n && eqb (n % 2) 1) is.0).0
 
 pub exponent_some : (digits : List ℕ) (m : ℕ) → ◌≡◌ {A = Option ℕ} (Some m) (cond (is_exponent digits) (Some (number_high digits)) None) → 0 < m
 unfolding is_exponent
 exponent_some digits m e =
     let n : ℕ = number_high digits in
     let is = given (is_exponent digits) m n e in
-    let low = leb-true 3 n (first (leb 3 n) (eqb (n % 2) 1) (second (leb (length digits) 3) (leb 3 n && eqb (n % 2) 1) is.0)) in omega (arith, low, is.1)
+    let low = leb-true 3 n (and_parts (leb 3 n) (eqb (n % 2) 1) (and_parts (leb (length digits) 3) (leb 3 n && eqb (n % 2) 1) is.0).1).0 in omega (arith, low, is.1)
 
 exponent_small : (digits : List ℕ) (m : ℕ) → ◌≡◌ {A = Option ℕ} (Some m) (cond (is_exponent digits) (Some (number_high digits)) None) → ((k : ℕ) → slice_index digits k < 256) → m < 2 ^ 32
 unfolding is_exponent
 exponent_small digits m e h =
     let n : ℕ = number_high digits in
     let is = given (is_exponent digits) m n e in
-    let short = leb-true (length digits) 3 (first (leb (length digits) 3) (leb 3 n && eqb (n % 2) 1) is.0) in
+    let short = leb-true (length digits) 3 (and_parts (leb (length digits) 3) (leb 3 n && eqb (n % 2) 1) is.0).0 in
     let low = high_below digits h in
     let more : 256 ^ length digits ≤ 256 ^ 3 = more_bytes (length digits) 3 short in omega (arith, low, more, is.1)
 

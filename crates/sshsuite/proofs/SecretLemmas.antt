@@ -8,7 +8,8 @@ use Rattle.std.proofs.lemmas.Slice.Eq.{bytes_eq-Decides}
 use Rattle.std.specs.Int.Bits.{or_zero_l, xor_self}
 use Rattle.std.specs.Prelude.{bit_or, bit_xor, slice_index}
 use Rattle.std.specs.Str.{bytes_eq}
-use Rattle.sshsuite.proofs.ConstantTimeLemmas.{by_both, xor_none}
+use Rattle.sshsuite.proofs.ConstantTimeLemmas.{xor_none}
+use Rattle.sshsuite.proofs.TestLemmas.{by_both}
 
 -- what a number tells of two lists after so many places: it is zero where they are one, and where it is zero they are as long, and
 -- alike at these places

@@ -6,7 +6,7 @@ use Rattle.sshsuite.specs.Aes.{sub_bytes}
 use Rattle.sshsuite.specs.AesBytes.{block_of, s_box}
 use Rattle.sshsuite.specs.SBox.{circuit}
 use Rattle.sshsuite.specs.SlicedAes.{joined, planes}
-use Rattle.sshsuite.proofs.AesLemmas.{AreBytes, bits_of, constants_are, ones_are, s_box_byte, same_block, sub_bytes_is, whole}
+use Rattle.sshsuite.proofs.AesLemmas.{AreBytes, bits_of, constants_are, ones_are, s_box_byte, same_block, sub_bytes_is, times_2, whole}
 use Rattle.sshsuite.proofs.CircuitLemmas.{block, by_bytes, summed}
 use Rattle.sshsuite.proofs.SlicedSamples.{byte_by_circuit, byte_joined, byte_planes, image_bit}
 
@@ -42,11 +42,6 @@ planes_are f h =
     (ap₂ ◌∷◌ (plane_is 7 f (omega arith) h) refl)))))))
 
 -- bits put to their places
-times_2 : (n : ℕ) (f : ℕ → ℕ) → block_of n f * 2 ≡ block_of n (λ i. f i * 2)
-unfolding block_of
-times_2 zero f = refl
-times_2 (suc n) f = let before = times_2 n f in omega (arith, before)
-
 raised_1 : (q : ℕ → ℕ) → ((i : ℕ) → q i < 2) → block q * 2 ^ 1 % 2 ^ 128 ≡ block (λ i. q i * 2 ^ 1)
 raised_1 q h =
     ap (λ (x : ℕ). x * 2 % 2 ^ 128) (of_bytes q (λ i. let low = h i in omega (arith, low)))

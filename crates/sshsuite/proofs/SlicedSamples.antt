@@ -1,31 +1,11 @@
 -- What is seen by computing: of each byte its image by the circuit.
 
-use Rattle.std.proofs.Common.{◌≡◌, ℕ, zero, suc, ◌*◌, ◌/◌, ◌%◌, ◌^◌, ◌<◌, inl, inr, Bool, true, false, List, [], ◌∷◌, refl, arith, cond, eqb, ltb}
-use Rattle.std.proofs.lemmas.Bool.{cases_Bool, eqb-false, eqb-true, ltb-true}
+use Rattle.std.proofs.Common.{◌≡◌, ℕ, ◌*◌, ◌/◌, ◌%◌, ◌^◌, ◌<◌, Bool, true, List, [], ◌∷◌, refl, cond, eqb, ltb}
+use Rattle.std.proofs.lemmas.Bool.{eqb-true, ltb-true}
 use Rattle.std.specs.Prelude.{bit_xor, slice_index}
 use Rattle.sshsuite.specs.AesBytes.{byte_inverse, byte_mapped, byte_product, byte_product_to, byte_turned, s_box, xtime, xtime_by}
 use Rattle.sshsuite.specs.SBox.{circuit}
-
--- a test of all numbers below another
-abbrev all_below : ℕ → (ℕ → Bool) → Bool
-all_below zero test = true
-all_below (suc n) test = cond (test n) (all_below n test) false
-
-guarded : (a b : Bool) → cond a b false ≡ true → (a ≡ true) × (b ≡ true)
-guarded true b e = (refl, e)
-guarded false b e = cc
-
-at_each : (n : ℕ) (test : ℕ → Bool) → all_below n test ≡ true → (k : ℕ) → k < n → test k ≡ true
-at_each zero test e k h = absurd (omega arith)
-at_each (suc n) test e k h =
-    let both = guarded (test n) (all_below n test) e in
-    elim (cases_Bool (eqb k n)) [
-      | inl is ↦ let at : k ≡ n = eqb-true k n is in rw at both.0
-      | inr isnt ↦ let off = eqb-false k n isnt in at_each n test both.1 k (below k n h off)
-    ]
-  where
-    below : (k n : ℕ) → k < suc n → (k ≡ n → ⊥) → k < n
-    below k n h off = omega arith
+use Rattle.sshsuite.proofs.TestLemmas.{all_below, at_each}
 
 -- the bits of a byte
 unfoldable pub byte_planes : ℕ → List ℕ

@@ -1,7 +1,7 @@
 -- The code computes X25519 on numbers.
 
-use Rattle.std.proofs.Common.{◌≡◌, ℕ, zero, suc, ◌-◌, ◌%◌, ◌^◌, ◌<◌, inl, inr, Bool, true, false, List, refl, sym, ap, subst, arith, cond, eqb, ltb}
-use Rattle.std.proofs.lemmas.Bool.{cases_Bool, eqb-true, ltb-true}
+use Rattle.std.proofs.Common.{◌≡◌, ℕ, zero, suc, ◌-◌, ◌%◌, ◌^◌, ◌<◌, inl, inr, Bool, true, false, List, sym, ap, subst, arith, cond, eqb, ltb}
+use Rattle.std.proofs.lemmas.Bool.{and_parts, cases_Bool, eqb-true, ltb-true}
 use Rattle.std.specs.Prelude.{◌&&◌, slice_index, Option, None, Some}
 use Rattle.sshsuite.specs.Bits.{bit_at, number_of_32}
 use Rattle.sshsuite.specs.Curve25519.{affine, clamped, ladder, ladder_bit, ladder_start, ladder_step, small_of, swapped, times_first, x25519}
@@ -26,11 +26,6 @@ abbrev IsSmall : Option ℕ → ℕ → Type 0
 IsSmall None u = Unit {0}
 IsSmall (Some n) u = (n < 2 ^ 32) × (n ≡ u)
 
-pub both_true : (x y : Bool) → (x && y) ≡ true → (x ≡ true) × (y ≡ true)
-both_true true y h = (refl, h)
-both_true false true h = (h, refl)
-both_true false false h = (h, h)
-
 small_is : (x1 : List ℕ) (u : ℕ) → HasTight x1 u → IsSmall (small_of x1) u
 unfolding small_of
 small_is x1 u h =
@@ -42,10 +37,10 @@ small_is x1 u h =
     let all : Bool = b1 && (b2 && (b3 && (b4 && b0))) in
     elim (cases_Bool all) [
       | inl is ↦
-          let e1 = both_true b1 (b2 && (b3 && (b4 && b0))) is in
-          let e2 = both_true b2 (b3 && (b4 && b0)) e1.1 in
-          let e3 = both_true b3 (b4 && b0) e2.1 in
-          let e4 = both_true b4 b0 e3.1 in
+          let e1 = and_parts b1 (b2 && (b3 && (b4 && b0))) is in
+          let e2 = and_parts b2 (b3 && (b4 && b0)) e1.1 in
+          let e3 = and_parts b3 (b4 && b0) e2.1 in
+          let e4 = and_parts b4 b0 e3.1 in
           let own = found (slice_index x1 0) (slice_index x1 1) (slice_index x1 2) (slice_index x1 3) (slice_index x1 4) u
           (eqb-true (slice_index x1 1) 0 e1.0) (eqb-true (slice_index x1 2) 0 e2.0) (eqb-true (slice_index x1 3) 0 e3.0) (eqb-true (slice_index x1 4) 0 e4.0)
           (ltb-true (slice_index x1 0) (2 ^ 32) e4.1) h.number in

@@ -9,11 +9,11 @@ use Rattle.sshsuite.specs.Aes.{cipher}
 unfoldable pub stream_number : List ℕ → ℕ → ℕ → ℕ
 stream_number keys counter i = cipher keys ((counter + i) % 2 ^ 128)
 
--- and as bytes
+-- block i of the key stream, as bytes
 unfoldable pub stream_block : List ℕ → ℕ → ℕ → List ℕ
 stream_block keys counter i = to_be_bytes w128 (stream_number keys counter i)
 
--- so many blocks of it
+-- the first so many blocks of the key stream
 unfoldable pub stream_to : List ℕ → ℕ → ℕ → List ℕ
 stream_to keys counter zero = []
 stream_to keys counter (suc n) = stream_to keys counter n ++ stream_block keys counter n

@@ -3,6 +3,7 @@
 use Rattle.std.proofs.Common.{◌≡◌, ℕ, zero, suc, ◌+◌, ◌*◌, ◌≤◌, List, [], ◌∷◌, ◌++◌, length, refl, sym, ap, ◌∙◌, arith}
 use Rattle.std.proofs.lemmas.List.{append-nil, append_assoc, length-append}
 use Rattle.std.specs.Int.{byte_at, bytes_high_first}
+use Rattle.std.specs.Prelude.{replicate}
 use Rattle.sshwire.specs.ByteLaws.{bytes_append, bytes_cons, bytes_none}
 use Rattle.sshwire.specs.Types.{IsBytes}
 use Rattle.sshsuite.specs.CounterMode.{stream_block, stream_to}
@@ -11,6 +12,11 @@ use Rattle.sshsuite.specs.KeyStream.{byte_low}
 pub bytes_high : (k n : ℕ) → IsBytes (bytes_high_first k n)
 bytes_high zero n = bytes_none
 bytes_high (suc k) n = bytes_cons (byte_at k n) (bytes_high_first k n) (byte_low k n) (bytes_high k n)
+
+-- the mask of a length that stays clear
+pub clear_front : IsBytes (replicate 4 0)
+clear_front =
+    bytes_cons 0 (0 ∷ 0 ∷ 0 ∷ []) (omega arith) (bytes_cons 0 (0 ∷ 0 ∷ []) (omega arith) (bytes_cons 0 (0 ∷ []) (omega arith) (bytes_cons 0 [] (omega arith) bytes_none)))
 
 length_block : (keys : List ℕ) (counter i : ℕ) → length (stream_block keys counter i) ≡ 16
 unfolding stream_block

@@ -10,7 +10,7 @@ use Rattle.sshsuite.specs.Aes.{number_at}
 use Rattle.sshsuite.specs.CipherNames.{is_short_key, keys_by}
 use Rattle.sshsuite.specs.CounterMode.{stream_to}
 use Rattle.sshsuite.specs.Hmac.{hmac_sha256, hmac_sha512}
-use Rattle.sshsuite.specs.Masks.{xored}
+use Rattle.sshwire.specs.Masks.{xored}
 use Rattle.sshsuite.specs.Sealing.{whole_key}
 
 -- a MAC that covers what is sealed, and not what is clear

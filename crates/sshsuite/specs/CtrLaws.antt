@@ -1,25 +1,25 @@
 -- Sealing by aes128-ctr and aes256-ctr has the laws.
 
-use Rattle.std.proofs.Common.{◌≡◌, ℕ, zero, suc, ◌+◌, ◌-◌, ◌*◌, ◌/◌, ◌≤◌, Bool, true, false, List, [], ◌∷◌, ◌++◌, length, take, drop, refl, sym, ap, ◌∙◌, arith, cond, ltb}
+use Rattle.std.proofs.Common.{◌≡◌, ℕ, zero, suc, ◌+◌, ◌-◌, ◌*◌, ◌/◌, ◌≤◌, Bool, true, false, List, [], ◌++◌, length, take, drop, refl, sym, ap, ◌∙◌, arith, cond, ltb}
 use Rattle.std.proofs.lemmas.Bool.{cases_Bool, cond_both, le-ltb, ltb-false}
-use Rattle.std.proofs.lemmas.List.{drop_at, length-append, length-replicate, length-take-le, take-append-le, take-take, take_at}
+use Rattle.std.proofs.lemmas.List.{length-append, length-replicate, length-take-le, take-append-le, take-take}
 use Rattle.std.specs.Prelude.{Some, replicate}
 use Rattle.std.specs.Str.{bytes_eq}
 use Rattle.sha2.proofs.Facts256.{length-sha256}
 use Rattle.sha2.proofs.Facts512.{length-sha512}
-use Rattle.sshwire.specs.ByteLaws.{bytes_append, bytes_cons, bytes_none, bytes_taken}
+use Rattle.sshwire.specs.ByteLaws.{bytes_append, bytes_none, bytes_taken}
 use Rattle.sshwire.specs.Types.{IsBytes, uint32}
 use Rattle.sshpacket.specs.KeysData.{KeysData}
 use Rattle.sshpacket.specs.Packet.{number}
 use Rattle.sshpacket.specs.Suite.{Keeps}
 use Rattle.sshsuite.specs.CipherNames.{is_short_key, keys_by}
 use Rattle.sshsuite.specs.CounterMode.{stream_to}
-use Rattle.sshsuite.specs.CounterModeLaws.{bytes_stream, length_stream, stream_front}
+use Rattle.sshsuite.specs.CounterModeLaws.{bytes_stream, clear_front, length_stream, stream_front}
 use Rattle.sshsuite.specs.Ctr.{checked, clear_length, counter_of, covers_sealed, crossed, head, is_by_sha512, mask, seal, tag, tag_length, tag_over, unseal}
 use Rattle.sshsuite.specs.HashBytes.{bytes_sha256, bytes_sha512}
 use Rattle.sshsuite.specs.Hmac.{hmac, hmac_sha256, hmac_sha512}
-use Rattle.sshsuite.specs.Masks.{bytes_xored, length_xored, xored, xored_more, xored_take, xored_twice}
-use Rattle.sshsuite.specs.SealingLaws.{guard_none, guard_some, number_front, same_bytes}
+use Rattle.sshwire.specs.Masks.{bytes_xored, length_xored, xored, xored_more, xored_take, xored_twice}
+use Rattle.sshsuite.specs.SealingLaws.{cut_before_tag, guard_none, guard_some, number_front, same_bytes}
 
 -- Masks.
 abbrev mask_with : Bool → List ℕ → ℕ → ℕ → List ℕ
@@ -37,10 +37,6 @@ long_mask false keys counter len h =
 pub length_mask : (keys : KeysData) (len : ℕ) → 4 ≤ len → len ≤ length (mask keys len)
 unfolding mask
 length_mask keys len h = long_mask (covers_sealed keys.mac) (keys_by (is_short_key keys.cipher) keys.enc) (counter_of keys.iv) len h
-
-clear_front : IsBytes (replicate 4 0)
-clear_front =
-    bytes_cons 0 (0 ∷ 0 ∷ 0 ∷ []) (omega arith) (bytes_cons 0 (0 ∷ 0 ∷ []) (omega arith) (bytes_cons 0 (0 ∷ []) (omega arith) (bytes_cons 0 [] (omega arith) bytes_none)))
 
 bytes_mask_with : (etm : Bool) (keys : List ℕ) (counter len : ℕ) → IsBytes (mask_with etm keys counter len)
 bytes_mask_with true keys counter len =
@@ -142,17 +138,13 @@ unseal_of_seal keys seq clear h =
     let front_long : length front ≡ length clear = length_crossed keys clear in
     let back_long : length back ≡ size = length_tag keys seq clear front in
     let long : length (front ++ back) ≡ length front + length back = length-append front back in
-    let cut : length (front ++ back) - size ≡ length clear = omega (arith, front_long, back_long, long) in
     let enough : ltb (length (front ++ back)) (4 + size) ≡ false = le-ltb (length (front ++ back)) (4 + size) (omega (arith, front_long, back_long, long, h)) in
-    let before : take (length (front ++ back) - size) (front ++ back) ≡ front
-    = ap (λ (n : ℕ). take n (front ++ back)) cut ∙ take_at front back (length clear) front_long in
-    let after : drop (length (front ++ back) - size) (front ++ back) ≡ back
-    = ap (λ (n : ℕ). drop n (front ++ back)) cut ∙ drop_at front back (length clear) front_long in
+    let parts = cut_before_tag front back size back_long in
     let again : crossed keys front ≡ clear = crossed_twice keys clear in
     let own : tag keys seq (crossed keys front) front ≡ back = ap (λ (xs : List ℕ). tag keys seq xs front) again in
     ap (λ (xs : List ℕ). unseal keys seq xs) is
-    ∙ rw enough (ap (λ (xs : List ℕ). checked keys seq xs (drop (length (front ++ back) - size) (front ++ back))) before
-    ∙ (ap (λ (xs : List ℕ). checked keys seq front xs) after
+    ∙ rw enough (ap (λ (xs : List ℕ). checked keys seq xs (drop (length (front ++ back) - size) (front ++ back))) parts.0
+    ∙ (ap (λ (xs : List ℕ). checked keys seq front xs) parts.1
     ∙ rw (own, same_bytes back) (ap (λ (xs : List ℕ). Some xs) again)))
 
 unsealed_is : (keys : KeysData) (seq : ℕ) (sealed clear : List ℕ) → unseal keys seq sealed ≡ Some clear

@@ -56,6 +56,7 @@ clamped bytes =
     let low = slice_set bytes 0 (slice_index bytes 0 - slice_index bytes 0 % 8) in
     slice_set low 31 (slice_index low 31 % 64 + 64)
 
+-- the state of the Montgomery ladder before its first step, by the u-coordinate of the point (RFC 7748 section 5)
 unfoldable pub ladder_start : List ℕ → LadderState
 ladder_start x1 = record { x2 = one; z2 = none; x3 = x1; z3 = one }
 
@@ -72,6 +73,7 @@ affine r = encode (mul r.x2 (inverse r.z2))
 unfoldable pub x25519 : List ℕ → List ℕ → List ℕ
 x25519 scalar point = affine (ladder (clamped scalar) (decode point) 255)
 
+-- the u-coordinate of the base point, 9, as 32 bytes (RFC 7748 section 4.1)
 abbrev pub base_point : List ℕ
 base_point = 9 ∷ replicate 31 0
 

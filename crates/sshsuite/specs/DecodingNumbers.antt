@@ -32,11 +32,13 @@ with_x x y odd =
     if odd == 1 && (x == 0) then None
     else (let x = if x % 2 == odd then x else minus 0 x in Some (record { x = x; y = y; z = 1; t = times x y }))
 
+-- the point with this root as x, or its opposite, and this y; none without a root (RFC 8032 section 5.1.3)
 unfoldable pub with_root : Option ℕ → ℕ → ℕ → Option Coordinates
 with_root None y odd = None
 with_root (Some x) y odd = with_x x y odd
 
--- the point of 32 bytes
+-- the point of 32 bytes, if they are one's: y is below 2^255 - 19, and x is a square root with the lowest bit that the highest bit says
+-- (RFC 8032 section 5.1.3)
 unfoldable pub point_in : List ℕ → Option Coordinates
 point_in bytes =
     let y = number_of_32 bytes % 2 ^ 255 in

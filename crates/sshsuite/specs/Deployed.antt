@@ -1,4 +1,5 @@
--- What the suite answers.
+-- What the suite answers, by limbs and words: the code written again. `DeployedNumbers.antt` has what the RFCs say, in numbers, and the laws of
+-- the crate say that both are the same.
 
 use Rattle.std.specs.Prelude.{ℕ, ◌==◌, ◌&&◌, ◌||◌, codes, true, false, if◌then◌else◌, Bool, List, ◌++◌, length, drop, replicate, Option, None, Some, option_map}
 use Rattle.std.specs.Str.{bytes_eq}
@@ -25,11 +26,11 @@ use Rattle.sshsuite.specs.Sealing.{head, seal, unseal}
 use Rattle.sshsuite.specs.Ed25519.{is_signature, public_key, signature}
 use Rattle.sshsuite.specs.KeyStream.{stream}
 
--- a name of curve25519-sha256
+-- a name of curve25519-sha256 (RFC 8731 section 1)
 unfoldable pub is_curve25519 : List ℕ → Bool
 is_curve25519 kex = bytes_eq kex (codes "curve25519-sha256") || bytes_eq kex (codes "curve25519-sha256@libssh.org")
 
--- the name of diffie-hellman-group14-sha256
+-- the name of diffie-hellman-group14-sha256 (RFC 8268 section 3)
 unfoldable pub is_group14 : List ℕ → Bool
 is_group14 kex = bytes_eq kex (codes "diffie-hellman-group14-sha256")
 
@@ -37,9 +38,11 @@ is_group14 kex = bytes_eq kex (codes "diffie-hellman-group14-sha256")
 unfoldable pub is_hybrid : List ℕ → Bool
 is_hybrid kex = bytes_eq kex (codes "mlkem768x25519-sha256")
 
+-- the name of ssh-ed25519 (RFC 8709)
 abbrev pub ed25519 : List ℕ
 ed25519 = codes "ssh-ed25519"
 
+-- whether this is the name of ssh-ed25519
 unfoldable pub is_ed25519 : List ℕ → Bool
 is_ed25519 alg = bytes_eq alg ed25519
 
@@ -47,16 +50,18 @@ is_ed25519 alg = bytes_eq alg ed25519
 abbrev pub aes_length : List ℕ → ℕ
 aes_length cipher = if is_short_key cipher then 16 else 32
 
+-- how many bytes the initialisation vector, the encryption key and the integrity key of these algorithms have
 abbrev pub key_lens : List ℕ → List ℕ → KeyLens
 key_lens cipher mac =
     if is_ctr cipher then record { iv = 16; enc = aes_length cipher; mac = tag_length mac }
     else if is_gcm cipher then record { iv = 12; enc = aes_length cipher; mac = 0 }
     else record { iv = 0; enc = 64; mac = 0 }
 
--- what is drawn of 32 random bytes by curve25519-sha256, and by diffie-hellman-group14-sha256
+-- the bytes of the scalar of curve25519-sha256, drawn of the 32 random bytes (profile)
 abbrev pub scalar_of : List ℕ → List ℕ
 scalar_of random = expanded random Curve25519 0
 
+-- the bytes of the exponent of diffie-hellman-group14-sha256, drawn of the 32 random bytes (profile)
 abbrev pub exponent_of : List ℕ → List ℕ
 exponent_of random = expanded random Group14 0
 
@@ -77,21 +82,25 @@ shared kex random peer =
     else if is_curve25519 kex && (length peer == 32) then shared_secret (x25519 (scalar_of random) peer)
     else None
 
+-- a response of this own share and this shared secret
 abbrev pub response_with : List ℕ → List ℕ → ResponseData
 response_with own body = record { share = own; shared = body }
 
--- what the server answers: in the hybrid its share depends on the client's
+-- what the server answers to a client's share: its own share and the shared secret; in the hybrid the share depends on the client's (RFC
+-- 4253 section 8, draft-ietf-sshm-mlkem-hybrid-kex)
 unfoldable pub respond : List ℕ → List ℕ → List ℕ → Option ResponseData
 respond kex random peer = if is_hybrid kex then hybrid_respond random peer else option_map (response_with (share kex random)) (shared kex random peer)
 
--- the name of the algorithm and the bytes, each as a string
+-- the name of the algorithm and the bytes, each as a string (RFC 8709 sections 4 and 6)
 unfoldable pub wrapped : List ℕ → List ℕ
 wrapped bytes = string ed25519 ++ string bytes
 
+-- whether blob and signature have the name of ssh-ed25519 in front, and the signature is valid (RFC 8709 sections 4 and 6)
 unfoldable pub is_verified : List ℕ → List ℕ → List ℕ → Bool
 is_verified blob input found =
     bytes_eq (wrapped (drop 19 blob)) blob && (bytes_eq (wrapped (drop 19 found)) found && is_signature (drop 19 blob) input (drop 19 found))
 
+-- whether the signature of the input is valid, by the algorithm: RSA (RFC 8332) or Ed25519 (RFC 8709); by any other it isn't
 unfoldable pub verify : List ℕ → List ℕ → List ℕ → List ℕ → Bool
 verify alg blob input found =
     if is_rsa alg then rsa_verify alg blob input found

@@ -5,17 +5,17 @@ use Rattle.std.specs.List.{list_any}
 use Rattle.std.specs.Str.{bytes_eq}
 use Rattle.sshpacket.specs.Inventory.{InventoryData}
 
--- its ciphers
+-- the ciphers of the suite
 abbrev pub deployed_ciphers : List (List ℕ)
 deployed_ciphers =
     codes "chacha20-poly1305@openssh.com" ∷ codes "aes256-gcm@openssh.com" ∷ codes "aes128-gcm@openssh.com" ∷ codes "aes256-ctr" ∷ codes "aes128-ctr" ∷ []
 
--- its MACs, of which the last two ciphers use one
+-- the MACs of the suite, of which the last two ciphers use one
 abbrev pub deployed_macs : List (List ℕ)
 deployed_macs =
     codes "hmac-sha2-256-etm@openssh.com" ∷ codes "hmac-sha2-512-etm@openssh.com" ∷ codes "hmac-sha2-256" ∷ codes "hmac-sha2-512" ∷ []
 
--- its key exchange methods
+-- the key exchange methods of the suite
 abbrev pub deployed_methods : List (List ℕ)
 deployed_methods =
     codes "mlkem768x25519-sha256" ∷ codes "curve25519-sha256" ∷ codes "curve25519-sha256@libssh.org" ∷ codes "diffie-hellman-group14-sha256" ∷ []
@@ -24,6 +24,7 @@ deployed_methods =
 abbrev pub is_one : List (List ℕ) → List ℕ → Bool
 is_one names name = list_any (λ own. bytes_eq name own) names
 
+-- what the suite has: its ciphers, its MACs and its methods
 abbrev pub deployed_inventory : InventoryData
 deployed_inventory = record {
   has_cipher = λ cipher. is_one deployed_ciphers cipher;

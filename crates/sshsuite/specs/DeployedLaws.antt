@@ -25,7 +25,7 @@ use Rattle.sshsuite.specs.Edwards25519.{with_sign, encode_point}
 use Rattle.sshsuite.specs.declared.edwards25519.Point.{Point}
 use Rattle.sshsuite.specs.Deployed.{deployed, ed25519, exponent_of, is_curve25519, is_group14, is_held, is_hybrid, key_lens, respond, response_with, scalar_of, share, shared, shared_secret, wrapped}
 use Rattle.sshsuite.specs.Group14.{group14_share, group14_shared}
-use Rattle.sshsuite.specs.Group14Laws.{body_bytes, body_number, group14_share_bytes, group14_share_fits, group14_shared_given}
+use Rattle.sshsuite.specs.Group14Laws.{body_bytes, body_number, bytes_by, group14_share_bytes, group14_share_fits, group14_shared_given}
 use Rattle.sshsuite.specs.Hybrid.{hybrid_respond, hybrid_share, hybrid_shared}
 use Rattle.sshsuite.specs.HybridLaws as hybrid
 use Rattle.sshsuite.specs.MpintBody.{mpint_body}
@@ -41,13 +41,6 @@ use Rattle.sshsuite.specs.SealingLaws.{bytes_seal, guard_none, head_of_seal, sea
 use Rattle.sshsuite.specs.Ed25519.{public_key, signature}
 use Rattle.sshsuite.specs.KeyStream.{bytes_stream, length_stream}
 
-cond_some : {A : Type 0} (b : Bool) (o : Option A) (y : A) → cond b o None ≡ Some y → o ≡ Some y
-cond_some true o y e = e
-cond_some false o y e = cc
-
-bytes_by : (xs ys : List ℕ) → xs ≡ ys → IsBytes xs → IsBytes ys
-bytes_by xs ys e h = rw e at h
-
 number_by : (xs ys : List ℕ) → xs ≡ ys → IsNumberBody xs → IsNumberBody ys
 number_by xs ys e h = rw e at h
 
@@ -58,6 +51,7 @@ share_short random = let long = length_x25519 random base_point in omega (arith,
 hybrid_short : (random : List ℕ) → length (hybrid_share random) ≤ SHARE_LIMIT
 hybrid_short random = let is = hybrid.share_is random in let long = is.long in omega (arith, long)
 
+-- the form of shares, by whether the method is group14 or the hybrid
 abbrev form_of : Bool → Bool → ShareForm
 form_of b c = cond b Mpint (cond c Hybrid OctetString)
 
@@ -86,7 +80,7 @@ shared_secret_given secret body e =
     let inner = (guard_none (bytes_eq secret (replicate 32 0)) (Some (mpint_body secret)) body e).1 in cc
 
 curve_given : (b : Bool) (random peer body : List ℕ) → cond b (shared_secret (x25519 random peer)) None ≡ Some body → mpint_body (x25519 random peer) ≡ body
-curve_given b random peer body e = shared_secret_given (x25519 random peer) body (cond_some b (shared_secret (x25519 random peer)) body e)
+curve_given b random peer body e = shared_secret_given (x25519 random peer) body (hybrid.guarded b (shared_secret (x25519 random peer)) body e)
 
 hybrid_given : (random peer body : List ℕ) → hybrid_shared random peer ≡ Some body → FitsShared Hybrid body × IsBytes body
 hybrid_given random peer body e = let is = hybrid.shared_is random peer body e in let long = is.long in (omega (arith, long), is.bytes)
@@ -110,14 +104,11 @@ shared_fits kex random peer body e = both_shared (is_group14 kex) (is_hybrid kex
 share_by : (form : ShareForm) (xs ys : List ℕ) → xs ≡ ys → FitsShare form xs → FitsShare form ys
 share_by form xs ys e h = rw e at h
 
-some_response : (r other : ResponseData) → ◌≡◌ {A = Option ResponseData} (Some r) (Some other) → r ≡ other
-some_response r other e = cc
-
 response_parts : (own : List ℕ) (o : Option (List ℕ)) (r : ResponseData) → option_map (response_with own) o ≡ Some r
     → (own ≡ r.share) × (o ≡ Some r.shared)
 response_parts own None r e = cc
 response_parts own (Some body) r e =
-    let is : response_with own body ≡ r = some_response (response_with own body) r e in
+    let is : response_with own body ≡ r = hybrid.some_response (response_with own body) r e in
     (ap (λ (x : ResponseData). x.share) is, ap (λ (x : ResponseData). Some x.shared) is)
 
 -- A response, by each method.
@@ -166,9 +157,11 @@ abbrev sealed_with : Bool → Bool → KeysData → ℕ → List ℕ → List �
 sealed_with c g keys seq clear =
     cond c (ctr.seal keys seq clear) (cond g (gcm.seal (is_short_key keys.cipher) keys.iv keys.enc clear) (seal keys.enc seq clear))
 
+-- packet_length, of the first four bytes of a sealed packet, by the kind of cipher
 abbrev head_with : Bool → Bool → KeysData → ℕ → List ℕ → ℕ
 head_with c g keys seq first = cond c (ctr.head keys first) (cond g (number first) (head keys.enc seq first))
 
+-- a sealed packet unsealed, by the kind of cipher
 abbrev unsealed_with : Bool → Bool → KeysData → ℕ → List ℕ → Option (List ℕ)
 unsealed_with c g keys seq sealed =
     cond c (ctr.unseal keys seq sealed) (cond g (gcm.unseal (is_short_key keys.cipher) keys.iv keys.enc sealed) (unseal keys.enc seq sealed))
@@ -203,10 +196,12 @@ each_bytes true g keys seq clear h = ctr_laws.bytes_seal keys seq clear h
 each_bytes false true keys seq clear h = gcm_laws.bytes_seal (is_short_key keys.cipher) keys.iv keys.enc clear h
 each_bytes false false keys seq clear h = bytes_seal keys.enc seq clear h
 
+-- the lengths of the keys, by the kinds of cipher and MAC
 abbrev lens_with : Bool → Bool → Bool → Bool → KeyLens
 lens_with c g short wide =
     cond c (record { iv = 16; enc = cond short 16 32; mac = cond wide 64 32 }) (cond g (record { iv = 12; enc = cond short 16 32; mac = 0 }) (record { iv = 0; enc = 64; mac = 0 }))
 
+-- the lengths of keys are within the limits
 abbrev AreShort : KeyLens → Type 0
 AreShort lens = (lens.iv ≤ KEY_LIMIT) × (lens.enc ≤ KEY_LIMIT) × (lens.mac ≤ KEY_LIMIT)
 

@@ -13,7 +13,7 @@ use Rattle.sshsuite.specs.FieldValues.{field}
 use Rattle.sshsuite.specs.X25519Numbers.{x25519_number}
 
 -- the scalar that is drawn of 32 random bytes, times the base point, whose u is 9; by diffie-hellman-group14-sha256 g to the number that is
--- drawn, modulo p
+-- drawn, modulo p (RFC 7748 section 6.1, RFC 4253 section 8, draft-ietf-sshm-mlkem-hybrid-kex)
 unfoldable pub share_bytes : List ℕ → List ℕ → List ℕ
 share_bytes kex random = if is_group14 kex then group14_share (exponent_of random) else if is_hybrid kex then hybrid_share random else bytes_of_number (x25519_number (clamped (scalar_of random)) 9)
 

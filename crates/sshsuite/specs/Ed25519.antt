@@ -9,15 +9,19 @@ use Rattle.sshsuite.specs.Edwards25519.{add_points, base_point, decode_point, en
 use Rattle.sshsuite.specs.Scalar.{encode_scalar, number_in, order}
 use Rattle.sshsuite.specs.declared.edwards25519.Point.{Point}
 
+-- the secret scalar: the first half of the SHA-512 of the private key, clamped (RFC 8032 section 5.1.5)
 unfoldable pub secret_scalar : List ℕ → List ℕ
 secret_scalar private_key = clamped (take 32 (sha512 private_key))
 
+-- the prefix: the second half of the SHA-512 of the private key (RFC 8032 section 5.1.6)
 unfoldable pub prefix_of : List ℕ → List ℕ
 prefix_of private_key = drop 32 (sha512 private_key)
 
+-- the public key: the bytes of the secret scalar times the base point, computed by limbs (RFC 8032 section 5.1.5)
 unfoldable pub public_key : List ℕ → List ℕ
 public_key private_key = encode_point (multiply (secret_scalar private_key) base_point)
 
+-- SHA-512 of three parts, one after the other (RFC 8032 section 5.1.6)
 unfoldable pub hash_of : List ℕ → List ℕ → List ℕ → List ℕ
 hash_of first second third = sha512 (first ++ second ++ third)
 
@@ -36,5 +40,6 @@ verifies (Some p) key input point answer =
     let challenge = encode_scalar (number_in (hash_of point key input) % order) in
     nat_lt (number_of_32 answer) order && bytes_eq (encode_point (add_points (multiply answer base_point) (multiply challenge (negate p)))) point
 
+-- the signature of the input by this key is valid, computed by limbs (RFC 8032 section 5.1.7)
 unfoldable pub is_signature : List ℕ → List ℕ → List ℕ → Bool
 is_signature key input signature = verifies (decode_point key) key input (take 32 signature) (drop 32 signature)

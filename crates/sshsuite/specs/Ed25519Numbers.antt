@@ -17,7 +17,7 @@ times_base bytes = bytes_of_point (multiple bytes base_numbers)
 unfoldable pub key_of : List ℕ → List ℕ
 key_of private_key = times_base (secret_scalar private_key)
 
--- R and s (section 5.1.6)
+-- a signature: the bytes of R, and of s, which is r + k times the secret scalar, modulo L (RFC 8032 section 5.1.6)
 unfoldable pub signed : List ℕ → List ℕ → List ℕ
 signed private_key input =
     let r = number_in (hash_of (prefix_of private_key) input []) % order in
@@ -32,5 +32,7 @@ is_right (Some a) key input point answer =
     let k = encode_scalar (number_in (hash_of point key input) % order) in
     nat_lt (number_of_32 answer) order && bytes_eq (bytes_of_point (added (multiple answer base_numbers) (multiple k (opposite a)))) point
 
+-- The signature is valid: s is below L, and s times the base point less k times the key's point is R (RFC 8032 section 5.1.7, without the
+-- cofactor).
 unfoldable pub is_signed : List ℕ → List ℕ → List ℕ → Bool
 is_signed key input signature = is_right (point_in key) key input (take 32 signature) (drop 32 signature)

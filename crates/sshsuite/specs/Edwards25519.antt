@@ -9,9 +9,11 @@ use Rattle.sshsuite.specs.declared.edwards25519.Factors.{Factors}
 use Rattle.sshsuite.specs.declared.edwards25519.Point.{Point}
 use Rattle.sshsuite.specs.declared.edwards25519.Summand.{Summand}
 
+-- the constant d of the curve, as five limbs (RFC 8032 section 5.1)
 abbrev pub d : List ℕ
 d = 929955233495203 ∷ 466365720129213 ∷ 1662059464998953 ∷ 2033849074728123 ∷ 1442794654840575 ∷ []
 
+-- twice d, as five limbs
 abbrev pub twice_d : List ℕ
 twice_d = 1859910466990425 ∷ 932731440258426 ∷ 1072319116312658 ∷ 1815898335770999 ∷ 633789495995903 ∷ []
 
@@ -36,6 +38,7 @@ base_point = record {
 unfoldable pub point_of_factors : Factors → Point
 point_of_factors s = record { x = mul s.e s.f; y = mul s.g s.h; z = mul s.g s.f; t = mul s.e s.h }
 
+-- the sum of two points (RFC 8032 section 5.1.4)
 unfoldable pub add_points : Point → Point → Point
 add_points p q =
     let a = mul (sub p.y p.x) (sub q.y q.x) in
@@ -81,6 +84,7 @@ double s =
     let g = loose_difference a b in
     record { e = loose_difference h (squared (loose_sum x y)); f = loose_sum (loose_sum zz zz) g; g = g; h = h }
 
+-- the opposite of a point: x and t change their sign
 unfoldable pub negate : Point → Point
 negate p = record { x = sub none p.x; y = p.y; z = p.z; t = sub none p.t }
 
@@ -93,6 +97,7 @@ unfoldable pub multiply_to : List ℕ → Summand → ℕ → Factors
 multiply_to bytes q zero = neutral_factors
 multiply_to bytes q (suc n) = double_and_add (multiply_to bytes q n) q (bit_at bytes (255 - n))
 
+-- the point times the number of these bytes, by limbs
 unfoldable pub multiply : List ℕ → Point → Point
 multiply bytes p = point_of_factors (multiply_to bytes (summand_of p) 256)
 
@@ -100,6 +105,7 @@ multiply bytes p = point_of_factors (multiply_to bytes (summand_of p) 256)
 unfoldable pub with_sign : List ℕ → List ℕ → List ℕ
 with_sign x y = slice_set y 31 (slice_index y 31 % 128 + slice_index x 0 % 2 * 128)
 
+-- the 32 bytes of a point: y, with the lowest bit of x as the highest (RFC 8032 section 5.1.2)
 unfoldable pub encode_point : Point → List ℕ
 encode_point p = let through_z = inverse p.z in with_sign (encode (mul p.x through_z)) (encode (mul p.y through_z))
 
@@ -111,6 +117,7 @@ root_by u v x =
     else if bytes_eq found (encode (sub none u)) then Some (mul x root)
     else None
 
+-- a square root of u / v, if it has one (RFC 8032 section 5.1.3)
 unfoldable pub square_root_of_ratio : List ℕ → List ℕ → Option (List ℕ)
 square_root_of_ratio u v =
     let cube = mul (squared v) v in
@@ -124,6 +131,7 @@ point_with x y odd =
     if odd == 1 && bytes_eq own (replicate 32 0) then None
     else (let x = if slice_index own 0 % 2 == odd then x else sub none x in Some (record { x = x; y = y; z = one; t = mul x y }))
 
+-- the point with this x or its opposite, by the lowest bit, and this y; none without x (RFC 8032 section 5.1.3)
 unfoldable pub point_from : Option (List ℕ) → List ℕ → ℕ → Option Point
 point_from None y odd = None
 point_from (Some x) y odd = point_with x y odd

@@ -19,6 +19,7 @@ pub record Coordinates : Type 0 where
 abbrev pub d_number : ℕ
 d_number = 37095705934669439343138083508754565189542113879843219016388785533085940283555
 
+-- twice d
 abbrev pub twice_d_number : ℕ
 twice_d_number = 16295367250680780974490674513165176452449235426866156013048779062215315747161
 
@@ -35,6 +36,7 @@ base_numbers = record {
   t = 46827403850823179245072216630277197565144205554125654976674165829533817101731;
 }
 
+-- the point in extended coordinates of these four factors (RFC 8032 section 5.1.4)
 unfoldable pub of_factors : ℕ → ℕ → ℕ → ℕ → Coordinates
 of_factors e f g h = record { x = times e f; y = times g h; z = times f g; t = times e h }
 
@@ -60,6 +62,7 @@ doubled p =
     let g = minus a b in
     of_factors e (plus c g) g h
 
+-- the opposite of a point: x and t change their sign
 unfoldable pub opposite : Coordinates → Coordinates
 opposite p = record { x = minus 0 p.x; y = p.y; z = p.z; t = minus 0 p.t }
 
@@ -69,7 +72,8 @@ multiple_to bytes p zero = neutral_numbers
 multiple_to bytes p (suc n) =
     if bit_at bytes (255 - n) == 1 then added (doubled (multiple_to bytes p n)) p else doubled (multiple_to bytes p n)
 
--- the number of 32 bytes, the lowest first, times the point
+-- the point so many times as the number of 32 bytes says, the lowest first; by doubling and adding, from the highest bit (RFC 8032 section
+-- 5.1.4)
 unfoldable pub multiple : List ℕ → Coordinates → Coordinates
 multiple bytes p = multiple_to bytes p 256
 

@@ -52,6 +52,7 @@ loose_sum a b =
     add64 (slice_index a 0) (slice_index b 0) ∷ add64 (slice_index a 1) (slice_index b 1) ∷ add64 (slice_index a 2) (slice_index b 2)
     ∷ add64 (slice_index a 3) (slice_index b 3) ∷ add64 (slice_index a 4) (slice_index b 4) ∷ []
 
+-- the sum of two elements of the field, by limbs
 unfoldable pub add : List ℕ → List ℕ → List ℕ
 add a b = carried_once (loose_sum a b)
 
@@ -66,6 +67,7 @@ loose_difference a b =
     ∷ less 4503599627370494 (slice_index a 2) (slice_index b 2) ∷ less 4503599627370494 (slice_index a 3) (slice_index b 3)
     ∷ less 4503599627370494 (slice_index a 4) (slice_index b 4) ∷ []
 
+-- the difference of two elements of the field, by limbs; four times the modulus is added, so that no limb is negative
 unfoldable pub sub : List ℕ → List ℕ → List ℕ
 sub a b =
     carried_once (less 9007199254740916 (slice_index a 0) (slice_index b 0) ∷ less 9007199254740988 (slice_index a 1) (slice_index b 1)
@@ -174,9 +176,11 @@ packed l =
     bit_or (slice_index l 0) (slice_index l 1 * 2 ^ 51 % 2 ^ 64) ∷ bit_or (slice_index l 1 / 2 ^ 13) (slice_index l 2 * 2 ^ 38 % 2 ^ 64)
     ∷ bit_or (slice_index l 2 / 2 ^ 26) (slice_index l 3 * 2 ^ 25 % 2 ^ 64) ∷ bit_or (slice_index l 3 / 2 ^ 39) (slice_index l 4 * 2 ^ 12 % 2 ^ 64) ∷ []
 
+-- zero, as five limbs
 abbrev pub none : List ℕ
 none = 0 ∷ 0 ∷ 0 ∷ 0 ∷ 0 ∷ []
 
+-- one, as five limbs
 abbrev pub one : List ℕ
 one = 1 ∷ 0 ∷ 0 ∷ 0 ∷ 0 ∷ []
 

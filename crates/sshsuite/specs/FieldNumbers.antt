@@ -3,6 +3,7 @@
 use Rattle.std.proofs.Common.{◌≡◌, ℕ, ◌+◌, ◌-◌, ◌*◌, ◌%◌, ◌^◌, List}
 use Rattle.sshsuite.specs.FieldValues.{AreBelow, field, value}
 
+-- the sum modulo 2^255 - 19
 unfoldable pub plus : ℕ → ℕ → ℕ
 plus x y = (x + y) % field
 
@@ -10,13 +11,15 @@ plus x y = (x + y) % field
 unfoldable pub minus : ℕ → ℕ → ℕ
 minus x y = (x + field - y) % field
 
+-- the product modulo 2^255 - 19
 unfoldable pub times : ℕ → ℕ → ℕ
 times x y = x * y % field
 
+-- the power modulo 2^255 - 19
 unfoldable pub power : ℕ → ℕ → ℕ
 power x e = x ^ e % field
 
--- one through the number
+-- one through the number, modulo 2^255 - 19: its power 2^255 - 21 (RFC 7748 section 5)
 unfoldable pub reciprocal : ℕ → ℕ
 reciprocal x = power x (field - 2)
 

@@ -7,7 +7,7 @@ use Rattle.sshsuite.specs.Aes.{cipher, number_at}
 use Rattle.sshsuite.specs.CipherNames.{keys_by}
 use Rattle.sshsuite.specs.CounterMode.{stream_number, stream_to}
 use Rattle.sshsuite.specs.Ghash.{ghash}
-use Rattle.sshsuite.specs.Masks.{xored}
+use Rattle.sshwire.specs.Masks.{xored}
 use Rattle.sshsuite.specs.Sealing.{whole_key}
 
 -- the counter block 0 of a packet: the 12 bytes of the vector, and 4 of the counter
@@ -25,6 +25,7 @@ first_eight keys counter =
 abbrev pub mask_by : List ℕ → ℕ → ℕ → List ℕ
 mask_by keys counter len = replicate 4 0 ++ stream_to keys ((counter + 2) % 2 ^ 128) ((len - 4 + 15) / 16)
 
+-- the mask of a packet of so many bytes, by the key and the initialisation vector
 unfoldable pub mask : Bool → List ℕ → List ℕ → ℕ → List ℕ
 mask short iv enc len = mask_by (keys_by short enc) (first_counter iv) len
 
@@ -36,6 +37,7 @@ encrypted short iv enc packet = xored packet (mask short iv enc (length packet))
 abbrev pub tag_by : List ℕ → ℕ → List ℕ → List ℕ
 tag_by keys counter sealed = to_be_bytes w128 (bit_xor (cipher keys ((counter + 1) % 2 ^ 128)) (ghash (cipher keys 0) (take 4 sealed) (drop 4 sealed)))
 
+-- the tag of a sealed packet, by the key and the initialisation vector; packet_length is the additional data (RFC 5647 section 7.3)
 unfoldable pub tag : Bool → List ℕ → List ℕ → List ℕ → List ℕ
 tag short iv enc sealed = tag_by (keys_by short enc) (first_counter iv) sealed
 

@@ -2,26 +2,22 @@
 
 use Rattle.std.proofs.Common.{◌≡◌, ℕ, ◌+◌, ◌-◌, ◌/◌, ◌%◌, ◌^◌, ◌≤◌, Bool, false, List, [], ◌∷◌, ◌++◌, length, take, drop, refl, sym, ap, ◌∙◌, arith, ltb}
 use Rattle.std.proofs.lemmas.Bool.{cond_both, le-ltb, ltb-false}
-use Rattle.std.proofs.lemmas.List.{drop_at, length-append, length-take-le, take-append-le, take-take, take_at}
+use Rattle.std.proofs.lemmas.List.{length-append, length-take-le, take-append-le, take-take}
 use Rattle.std.specs.Int.Bits.{xor_zero_r}
 use Rattle.std.specs.Prelude.{Some, replicate}
 use Rattle.std.specs.Str.{bytes_eq}
-use Rattle.sshwire.specs.ByteLaws.{bytes_append, bytes_cons, bytes_none, bytes_taken}
+use Rattle.sshwire.specs.ByteLaws.{bytes_append, bytes_none, bytes_taken}
 use Rattle.sshwire.specs.Types.{IsBytes}
 use Rattle.sshpacket.specs.Packet.{number}
 use Rattle.sshpacket.specs.Suite.{Keeps}
 use Rattle.sshsuite.specs.CipherNames.{keys_by}
 use Rattle.sshsuite.specs.CounterMode.{stream_to}
-use Rattle.sshsuite.specs.CounterModeLaws.{bytes_high, bytes_stream, length_stream}
+use Rattle.sshsuite.specs.CounterModeLaws.{bytes_high, bytes_stream, clear_front, length_stream}
 use Rattle.sshsuite.specs.Gcm.{checked, encrypted, first_counter, mask, mask_by, seal, tag, unseal}
-use Rattle.sshsuite.specs.Masks.{bytes_xored, length_xored, xored, xored_twice}
-use Rattle.sshsuite.specs.SealingLaws.{guard_none, guard_some, number_front, same_bytes}
+use Rattle.sshwire.specs.Masks.{bytes_xored, length_xored, xored, xored_twice}
+use Rattle.sshsuite.specs.SealingLaws.{cut_before_tag, guard_none, guard_some, number_front, same_bytes}
 
 -- Masks.
-clear_front : IsBytes (replicate 4 0)
-clear_front =
-    bytes_cons 0 (0 ∷ 0 ∷ 0 ∷ []) (omega arith) (bytes_cons 0 (0 ∷ 0 ∷ []) (omega arith) (bytes_cons 0 (0 ∷ []) (omega arith) (bytes_cons 0 [] (omega arith) bytes_none)))
-
 pub length_mask : (keys : List ℕ) (counter len : ℕ) → 4 ≤ len → len ≤ length (mask_by keys counter len)
 length_mask keys counter len h =
     let second : ℕ = (counter + 2) % 2 ^ 128 in
@@ -102,15 +98,11 @@ unseal_of_seal short iv enc clear h =
     let front_long : length front ≡ length clear = length_encrypted short iv enc clear in
     let back_long : length back ≡ 16 = length_tag short iv enc front in
     let long : length (front ++ back) ≡ length front + length back = length-append front back in
-    let cut : length (front ++ back) - 16 ≡ length clear = omega arith in
     let enough : ltb (length (front ++ back)) 20 ≡ false = le-ltb (length (front ++ back)) 20 (omega arith) in
-    let before : take (length (front ++ back) - 16) (front ++ back) ≡ front
-    = ap (λ (n : ℕ). take n (front ++ back)) cut ∙ take_at front back (length clear) front_long in
-    let after : drop (length (front ++ back) - 16) (front ++ back) ≡ back
-    = ap (λ (n : ℕ). drop n (front ++ back)) cut ∙ drop_at front back (length clear) front_long in
+    let parts = cut_before_tag front back 16 back_long in
     ap (λ (xs : List ℕ). unseal short iv enc xs) is
-    ∙ rw enough (ap (λ (xs : List ℕ). checked short iv enc xs (drop (length (front ++ back) - 16) (front ++ back))) before
-    ∙ (ap (λ (xs : List ℕ). checked short iv enc front xs) after
+    ∙ rw enough (ap (λ (xs : List ℕ). checked short iv enc xs (drop (length (front ++ back) - 16) (front ++ back))) parts.0
+    ∙ (ap (λ (xs : List ℕ). checked short iv enc front xs) parts.1
     ∙ rw (same_bytes back) (ap (λ (xs : List ℕ). Some xs) (encrypted_twice short iv enc clear))))
 
 unsealed_is : (short : Bool) (iv enc sealed clear : List ℕ) → unseal short iv enc sealed ≡ Some clear

@@ -9,6 +9,7 @@ use Rattle.sshsuite.specs.Sealing.{filled_up}
 unfoldable pub shifted : ℕ → ℕ
 shifted v = if v % 2 == 1 then bit_xor (v / 2 ^ 1) (0xe1 * 2 ^ 120) else v / 2 ^ 1
 
+-- a block times x, so many times
 unfoldable pub shifted_by : ℕ → ℕ → ℕ
 shifted_by v zero = v
 shifted_by v (suc n) = shifted (shifted_by v n)

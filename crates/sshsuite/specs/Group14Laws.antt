@@ -2,15 +2,15 @@
 
 use Rattle.std.proofs.Common.{◌≡◌, ℕ, zero, suc, ◌+◌, ◌-◌, ◌*◌, ◌/◌, ◌%◌, ◌^◌, ◌<◌, ◌≤◌, Bool, true, false, List, [], ◌∷◌, length, refl, sym, ap, ◌∙◌, arith, cond, eqb, leb, ltb, inl, inr}
 use Rattle.std.proofs.Math.Nat.{div-add-mod, div-one, mod-eq_of_lt, pow-suc, pow-zero}
-use Rattle.std.proofs.lemmas.Bool.{cases_lt, cond_both, eqb-false, eqb-true, leb-false, leb-true, ltb-true}
+use Rattle.std.proofs.lemmas.Bool.{and_parts, cases_lt, cond_both, eqb-false, eqb-true, leb-false, leb-true, ltb-true}
 use Rattle.std.proofs.lemmas.Nat.{div_below, mod-mul-add, mod_below, mul-mod_first}
 use Rattle.std.specs.Int.{byte_at, bytes_high_first}
-use Rattle.std.specs.Prelude.{◌&&◌, Option, None, Some}
+use Rattle.std.specs.Prelude.{Option, None, Some}
 use Rattle.sshwire.specs.ByteLaws.{bytes_cons, bytes_dropped, bytes_none}
 use Rattle.sshwire.specs.Types.{IsBytes}
 use Rattle.sshpacket.specs.Suite.{IsNumberBody, IsPositiveBody}
+use Rattle.sshsuite.specs.CounterModeLaws.{bytes_high as bytes_of}
 use Rattle.sshsuite.specs.Group14.{bytes_high, generator, group14_share, group14_shared, is_within, number_body, peer_number, power, prime, secret_body, secret_with}
-use Rattle.sshsuite.specs.KeyStream.{byte_low}
 use Rattle.sshsuite.specs.MpintBody.{mpint_body}
 use Rattle.sshsuite.specs.Scalar.{number_in}
 
@@ -42,10 +42,6 @@ body_bytes (b ∷ bytes) h =
 pub length_high : (k n : ℕ) → length (bytes_high_first k n) ≡ k
 length_high zero n = refl
 length_high (suc k) n = ap (λ (m : ℕ). suc m) (length_high k n)
-
-bytes_of : (k n : ℕ) → IsBytes (bytes_high_first k n)
-bytes_of zero n = bytes_none
-bytes_of (suc k) n = bytes_cons (byte_at k n) (bytes_high_first k n) (byte_low k n) (bytes_of k n)
 
 pub byte_is : (k n : ℕ) → byte_at k n ≡ n / 256 ^ k % 256
 byte_is zero n = ap (λ (d : ℕ). d % 256) (sym (div-one n)) ∙ ap (λ (d : ℕ). n / d % 256) (sym (pow-zero 256))
@@ -146,31 +142,23 @@ group14_share_bytes random = number_bytes (power generator random)
 -- Shared secrets.
 within_is : (n : ℕ) → is_within n ≡ true → (0 < n) × (n < prime)
 within_is n e =
-    let low = ltb-true 1 n (first (ltb 1 n) (ltb n (prime - 1)) e) in
-    let high = ltb-true n (prime - 1) (second (ltb 1 n) (ltb n (prime - 1)) e) in (omega (arith, low), omega (arith, high))
-  where
-    first : (x y : Bool) → (x && y) ≡ true → x ≡ true
-    first true y e = refl
-    first false y e = e
+    let low = ltb-true 1 n (and_parts (ltb 1 n) (ltb n (prime - 1)) e).0 in
+    let high = ltb-true n (prime - 1) (and_parts (ltb 1 n) (ltb n (prime - 1)) e).1 in (omega (arith, low), omega (arith, high))
 
-    second : (x y : Bool) → (x && y) ≡ true → y ≡ true
-    second true y e = e
-    second false y e = cc
+pub bytes_by : (xs ys : List ℕ) → xs ≡ ys → IsBytes xs → IsBytes ys
+bytes_by xs ys e h = rw e at h
 
 secret_given : (k : ℕ) (b : Bool) (body : List ℕ) → is_within k ≡ b → cond b (Some (number_body k)) None ≡ Some body → IsPositiveBody body × IsBytes body
 secret_given k true body is e =
     let within = within_is k is in
     let same : number_body k ≡ body = some_body (number_body k) body e in
-    (by_positive (number_body k) body same (number_positive k within.0 within.1), by_bytes (number_body k) body same (number_bytes k))
+    (by_positive (number_body k) body same (number_positive k within.0 within.1), bytes_by (number_body k) body same (number_bytes k))
   where
     some_body : (xs ys : List ℕ) → ◌≡◌ {A = Option (List ℕ)} (Some xs) (Some ys) → xs ≡ ys
     some_body xs ys e = cc
 
     by_positive : (xs ys : List ℕ) → xs ≡ ys → IsPositiveBody xs → IsPositiveBody ys
     by_positive xs ys e h = rw e at h
-
-    by_bytes : (xs ys : List ℕ) → xs ≡ ys → IsBytes xs → IsBytes ys
-    by_bytes xs ys e h = rw e at h
 secret_given k false body is e = cc
 
 with_given : (random : List ℕ) (o : Option ℕ) (body : List ℕ) → secret_with random o ≡ Some body → IsPositiveBody body × IsBytes body

@@ -3,7 +3,7 @@
 use Rattle.std.specs.Prelude.{ℕ, ◌-◌, nat_lt, if◌then◌else◌, List, ◌++◌, length, replicate}
 use Rattle.sha2.specs.Sha256.{sha256}
 use Rattle.sha2.specs.Sha512.{sha512}
-use Rattle.sshsuite.specs.Masks.{xored}
+use Rattle.sshwire.specs.Masks.{xored}
 
 -- bytes with zeros after them, up to a block
 abbrev pub filled : ℕ → List ℕ → List ℕ
@@ -18,9 +18,10 @@ unfoldable pub hmac : (List ℕ → List ℕ) → ℕ → List ℕ → List ℕ 
 hmac hash block key input =
     hash (xored (block_key hash block key) (replicate block 0x5c) ++ hash (xored (block_key hash block key) (replicate block 0x36) ++ input))
 
--- by SHA-256, whose blocks have 64 bytes, and by SHA-512, whose blocks have 128 (RFC 6668)
+-- HMAC by SHA-256, whose blocks have 64 bytes (RFC 2104, RFC 6668)
 abbrev pub hmac_sha256 : List ℕ → List ℕ → List ℕ
 hmac_sha256 key input = hmac sha256 64 key input
 
+-- HMAC by SHA-512, whose blocks have 128 bytes (RFC 2104, RFC 6668)
 abbrev pub hmac_sha512 : List ℕ → List ℕ → List ℕ
 hmac_sha512 key input = hmac sha512 128 key input

@@ -13,7 +13,7 @@ use Rattle.sshsuite.specs.declared.expansion.Purpose.TheVariants.{HybridClient, 
 unfoldable pub hybrid_share : List ℕ → List ℕ
 hybrid_share random = (keys_of (expanded random HybridClient 0) (expanded random HybridClient 1)).encapsulation_key ++ x25519 (expanded random HybridClient 2) base_point
 
--- what both secrets come to; none where that of X25519 is zero
+-- SHA-256 of the secret of ML-KEM and that of X25519, one after the other; none where the second is zero
 unfoldable pub both_secrets : List ℕ → List ℕ → Option (List ℕ)
 both_secrets secret classical = if bytes_eq classical (replicate 32 0) then None else Some (sha256 (secret ++ classical))
 
@@ -23,6 +23,7 @@ hybrid_shared random peer =
     if length peer == 1120 then both_secrets (decapsulated (keys_of (expanded random HybridClient 0) (expanded random HybridClient 1)).decapsulation_key (take 1088 peer)) (x25519 (expanded random HybridClient 2) (drop 1088 peer))
     else None
 
+-- a response of this own share and this shared secret
 unfoldable pub response_of : List ℕ → List ℕ → ResponseData
 response_of own body = record { share = own; shared = body }
 

@@ -38,7 +38,7 @@ unfolding both_secrets
 secret_is secret classical body e =
     are_by 32 (sha256 (secret ++ classical)) body (some_of (bytes_eq classical (replicate 32 0)) (sha256 (secret ++ classical)) body e) (hashed (secret ++ classical))
 
-guarded : {A : Type 0} (b : Bool) (o : Option A) (y : A) → cond b o None ≡ Some y → o ≡ Some y
+pub guarded : {A : Type 0} (b : Bool) (o : Option A) (y : A) → cond b o None ≡ Some y → o ≡ Some y
 guarded true o y e = e
 guarded false o y e = cc
 
@@ -47,10 +47,10 @@ pub shared_is : (random peer body : List ℕ) → hybrid_shared random peer ≡ 
 unfolding hybrid_shared
 shared_is random peer body e = secret_is _ _ body (guarded (eqb (length peer) 1120) _ body e)
 
-some_response : (r other : ResponseData) → ◌≡◌ {A = Option ResponseData} (Some r) (Some other) → r ≡ other
+pub some_response : (r other : ResponseData) → ◌≡◌ {A = Option ResponseData} (Some r) (Some other) → r ≡ other
 some_response r other e = cc
 
-response_parts : (own : List ℕ) (o : Option (List ℕ)) (r : ResponseData) → option_map (response_of own) o ≡ Some r → (own ≡ r.share) × (o ≡ Some r.shared)
+pub response_parts : (own : List ℕ) (o : Option (List ℕ)) (r : ResponseData) → option_map (response_of own) o ≡ Some r → (own ≡ r.share) × (o ≡ Some r.shared)
 unfolding response_of
 response_parts own None r e = cc
 response_parts own (Some body) r e =

@@ -15,10 +15,12 @@ use Rattle.sshwire.specs.Types.{IsBytes}
 unfoldable pub generator : List ℕ → ℕ → ℕ → ChaCha
 generator key seq block = record { key = key_of key; stream = swap_bytes w64 seq; word_pos = 16 * block % 2 ^ 68 }
 
+-- the first so many bytes of this generator's stream
 unfoldable pub filled : ChaCha → ℕ → List ℕ
 filled g len = (fill_via_u32 (next_word 10) len g).0
 
--- so many bytes of the stream
+-- so many bytes of the stream of a key for the packet of this number, from a block on (RFC 8439 section 2.3, with the counter and the nonce
+-- of OpenSSH PROTOCOL.chacha20poly1305)
 unfoldable pub stream : List ℕ → ℕ → ℕ → ℕ → List ℕ
 stream key seq block len = filled (generator key seq block) len
 

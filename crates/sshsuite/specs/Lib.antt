@@ -6,7 +6,6 @@ pub mod Scalar
 pub mod Edwards25519
 pub mod Ed25519
 pub mod Poly1305
-pub mod Masks
 pub mod KeyStream
 pub mod Sealing
 pub mod SealingLaws

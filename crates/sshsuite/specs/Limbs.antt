@@ -2,15 +2,19 @@
 
 use Rattle.std.specs.Prelude.{ℕ, ◌+◌, ◌*◌, ◌/◌, ◌%◌, ◌^◌, List, [], ◌∷◌, slice_index}
 
+-- the sum as a word of 64 bits: modulo 2^64
 abbrev pub add64 : ℕ → ℕ → ℕ
 add64 x y = (x + y) % 2 ^ 64
 
+-- the product as a word of 64 bits: modulo 2^64
 abbrev pub mul64 : ℕ → ℕ → ℕ
 mul64 x y = x * y % 2 ^ 64
 
+-- the sum as a word of 128 bits: modulo 2^128
 abbrev pub add128 : ℕ → ℕ → ℕ
 add128 x y = (x + y) % 2 ^ 128
 
+-- the product as a word of 128 bits: modulo 2^128
 abbrev pub mul128 : ℕ → ℕ → ℕ
 mul128 x y = x * y % 2 ^ 128
 

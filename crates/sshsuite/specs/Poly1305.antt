@@ -12,11 +12,13 @@ limbs_of low high above =
     low % 2 ^ 26 ∷ low / 2 ^ 26 % 2 ^ 26 ∷ bit_or (low / 2 ^ 52) (high * 2 ^ 12 % 2 ^ 64) % 2 ^ 26 ∷ high / 2 ^ 14 % 2 ^ 26
     ∷ bit_or (high / 2 ^ 40) above ∷ []
 
+-- the sum of the products of the limbs at each place
 unfoldable pub dot : List ℕ → List ℕ → ℕ
 dot a b =
     add64 (add64 (add64 (add64 (mul64 (slice_index a 0) (slice_index b 0)) (mul64 (slice_index a 1) (slice_index b 1)))
     (mul64 (slice_index a 2) (slice_index b 2))) (mul64 (slice_index a 3) (slice_index b 3))) (mul64 (slice_index a 4) (slice_index b 4))
 
+-- five sums as limbs of 26 bits, carried once: what the highest has too much comes back five times at the lowest
 unfoldable pub carried : List ℕ → List ℕ
 carried sums =
     let c0 = slice_index sums 0 in
@@ -27,6 +29,7 @@ carried sums =
     let d0 = add64 (c0 % 2 ^ 26) (mul64 (c4 / 2 ^ 26) 5) in
     d0 % 2 ^ 26 ∷ add64 (c1 % 2 ^ 26) (d0 / 2 ^ 26) ∷ c2 % 2 ^ 26 ∷ c3 % 2 ^ 26 ∷ c4 % 2 ^ 26 ∷ []
 
+-- the product of two numbers of five limbs, as five limbs, modulo 2^130 - 5
 unfoldable pub mul : List ℕ → List ℕ → List ℕ
 mul a b =
     let b0 = slice_index b 0 in
@@ -41,6 +44,7 @@ mul a b =
     carried (dot a (b0 ∷ s4 ∷ s3 ∷ s2 ∷ s1 ∷ []) ∷ dot a (b1 ∷ b0 ∷ s4 ∷ s3 ∷ s2 ∷ []) ∷ dot a (b2 ∷ b1 ∷ b0 ∷ s4 ∷ s3 ∷ [])
     ∷ dot a (b3 ∷ b2 ∷ b1 ∷ b0 ∷ s4 ∷ []) ∷ dot a (b4 ∷ b3 ∷ b2 ∷ b1 ∷ b0 ∷ []) ∷ [])
 
+-- the sum of two numbers of five limbs, limb by limb
 unfoldable pub add : List ℕ → List ℕ → List ℕ
 add a b =
     add64 (slice_index a 0) (slice_index b 0) ∷ add64 (slice_index a 1) (slice_index b 1) ∷ add64 (slice_index a 2) (slice_index b 2)
@@ -87,6 +91,7 @@ packed l =
     bit_or (bit_or (bit_or (bit_or (slice_index l 0) (slice_index l 1 * 2 ^ 26 % 2 ^ 128)) (slice_index l 2 * 2 ^ 52 % 2 ^ 128))
     (slice_index l 3 * 2 ^ 78 % 2 ^ 128)) (slice_index l 4 * 2 ^ 104 % 2 ^ 128)
 
+-- the number s: the second half of the key (RFC 8439 section 2.5)
 unfoldable pub s_of : List ℕ → ℕ
 s_of key = bit_or (word_at key 16) (word_at key 24 * 2 ^ 64 % 2 ^ 128)
 

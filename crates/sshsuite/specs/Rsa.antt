@@ -10,9 +10,11 @@ use Rattle.sshwire.specs.declared.fault.WireFault.{WireFault}
 use Rattle.sshwire.specs.declared.fault.WireFault.TheVariants.{NotCanonical}
 use Rattle.sshsuite.specs.Group14.{is_positive_body, number_high}
 
+-- whether this is the name of rsa-sha2-256 (RFC 8332 section 3)
 unfoldable pub is_rsa_256 : List ℕ → Bool
 is_rsa_256 alg = bytes_eq alg (codes "rsa-sha2-256")
 
+-- whether this is the name of rsa-sha2-512 (RFC 8332 section 3)
 unfoldable pub is_rsa_512 : List ℕ → Bool
 is_rsa_512 alg = bytes_eq alg (codes "rsa-sha2-512")
 
@@ -20,11 +22,12 @@ is_rsa_512 alg = bytes_eq alg (codes "rsa-sha2-512")
 unfoldable pub is_rsa : List ℕ → Bool
 is_rsa alg = is_rsa_256 alg || is_rsa_512 alg
 
--- DigestInfo up to the digest (RFC 8017 section 9.2, note 1)
+-- DigestInfo of SHA-256 up to the digest (RFC 8017 section 9.2, note 1)
 abbrev pub info_256 : List ℕ
 info_256 =
     0x30 ∷ 0x31 ∷ 0x30 ∷ 0x0d ∷ 0x06 ∷ 0x09 ∷ 0x60 ∷ 0x86 ∷ 0x48 ∷ 0x01 ∷ 0x65 ∷ 0x03 ∷ 0x04 ∷ 0x02 ∷ 0x01 ∷ 0x05 ∷ 0x00 ∷ 0x04 ∷ 0x20 ∷ []
 
+-- DigestInfo of SHA-512 up to the digest (RFC 8017 section 9.2, note 1)
 abbrev pub info_512 : List ℕ
 info_512 =
     0x30 ∷ 0x51 ∷ 0x30 ∷ 0x0d ∷ 0x06 ∷ 0x09 ∷ 0x60 ∷ 0x86 ∷ 0x48 ∷ 0x01 ∷ 0x65 ∷ 0x03 ∷ 0x04 ∷ 0x02 ∷ 0x03 ∷ 0x05 ∷ 0x00 ∷ 0x04 ∷ 0x40 ∷ []
@@ -60,16 +63,16 @@ signature_in alg found = do
   s ← string_at name.1
   if bytes_eq name.0 alg && (length s.1 == 0) then Ok s.0 else Err NotCanonical
 
--- the bytes of a positive number, by its mpint's body
+-- the bytes of a positive number, by its mpint's body (RFC 4251 section 5)
 unfoldable pub digits : List ℕ → List ℕ
 digits [] = []
 digits (b ∷ bytes) = if b == 0 then bytes else b ∷ bytes
 
--- the exponent is odd, from 3 to below 2^24
+-- the exponent is odd, from 3 to below 2^24 (the upper limit is profile)
 unfoldable pub is_exponent : List ℕ → Bool
 is_exponent e = nat_le (length e) 3 && (nat_le 3 (number_high e) && (number_high e % 2 == 1))
 
--- the modulus is odd, of 2048 to 8192 bits
+-- the modulus is odd, of 2048 to 8192 bits (profile)
 unfoldable pub is_modulus : List ℕ → Bool
 is_modulus n = nat_le (length n) 1024 && (nat_le (2 ^ 2047) (number_high n) && (number_high n % 2 == 1))
 
@@ -79,17 +82,18 @@ is_signed e n info s =
     nat_le (length s) (length n) && (nat_lt (number_high s) (number_high n)
     && (number_high s ^ e % number_high n == number_high (encoded (length n) info)))
 
--- by the bodies of e and n
+-- the signature is valid by these bodies of e and n, where they are such numbers (RFC 8017 section 8.2.2)
 unfoldable pub is_signed_by : List ℕ → List ℕ → List ℕ → List ℕ → Bool
 is_signed_by e n info s =
     if is_positive_body e && is_positive_body n && is_exponent (digits e)
     then (if is_modulus (digits n) then is_signed (number_high (digits e)) (digits n) info s else false) else false
 
--- by a public key and a signature as they came
+-- the signature is valid by a public key and a signature as they were read
 unfoldable pub verifies_by : List ℕ → List ℕ → Result (List ℕ × List ℕ) WireFault → Result (List ℕ) WireFault → Bool
 verifies_by alg input (Err e) s = false
 verifies_by alg input (Ok key) (Err e) = false
 verifies_by alg input (Ok key) (Ok s) = is_signed_by key.0 key.1 (digest_info alg input) s
 
+-- whether the signature is valid, by the public key in the blob (RFC 8332 section 3)
 unfoldable pub rsa_verify : List ℕ → List ℕ → List ℕ → List ℕ → Bool
 rsa_verify alg blob input found = verifies_by alg input (key_in blob) (signature_in alg found)

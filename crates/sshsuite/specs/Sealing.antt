@@ -3,7 +3,7 @@
 use Rattle.std.specs.Prelude.{ℕ, ◌-◌, nat_lt, if◌then◌else◌, List, [], ◌++◌, length, take, drop, min, replicate, Option, None, Some}
 use Rattle.std.specs.Str.{bytes_eq}
 use Rattle.sshpacket.specs.Packet.{number}
-use Rattle.sshsuite.specs.Masks.{xored}
+use Rattle.sshwire.specs.Masks.{xored}
 use Rattle.sshsuite.specs.Poly1305.{tag_of}
 use Rattle.sshsuite.specs.KeyStream.{stream}
 
@@ -11,13 +11,15 @@ use Rattle.sshsuite.specs.KeyStream.{stream}
 unfoldable pub filled_up : List ℕ → List ℕ
 filled_up bytes = bytes ++ replicate (64 - length bytes) 0
 
+-- the encryption key as 64 bytes: longer ones are cut, shorter ones filled up with zeros
 unfoldable pub whole_key : List ℕ → List ℕ
 whole_key enc = filled_up (take (min (length enc) 64) enc)
 
--- the half for the packet after its length, and the half for the length
+-- the first half of the key, for what follows packet_length
 unfoldable pub payload_key : List ℕ → List ℕ
 payload_key enc = take 32 (whole_key enc)
 
+-- the second half of the key, for the four bytes of packet_length
 unfoldable pub length_key : List ℕ → List ℕ
 length_key enc = drop 32 (whole_key enc)
 

@@ -11,7 +11,7 @@ use Rattle.sshwire.specs.TypeReadings.{uint32_at}
 use Rattle.sshwire.specs.Types.{IsBytes, uint32}
 use Rattle.sshpacket.specs.Packet.{IsPacket, length_field, number}
 use Rattle.sshpacket.specs.Suite.{Keeps}
-use Rattle.sshsuite.specs.Masks.{bytes_xored, length_xored, xored, xored_more, xored_take, xored_twice}
+use Rattle.sshwire.specs.Masks.{bytes_xored, length_xored, xored, xored_more, xored_take, xored_twice}
 use Rattle.sshsuite.specs.Poly1305.{tag_of}
 use Rattle.sshsuite.specs.Sealing.{payload_key, checked, encrypted, head, length_key, mask, seal, tag, unseal}
 use Rattle.sshsuite.specs.KeyStream.{bytes_low, bytes_stream, length_stream, stream}
@@ -27,6 +27,16 @@ guard_some false x y e = cc
 pub guard_none : {A : Type 0} (b : Bool) (o : Option A) (y : A) → cond b None o ≡ Some y → (b ≡ false) × (o ≡ Some y)
 guard_none true o y e = cc
 guard_none false o y e = (refl, e)
+
+-- What is sealed is cut before its tag.
+pub cut_before_tag : (front back : List ℕ) (size : ℕ) → length back ≡ size
+    → (take (length (front ++ back) - size) (front ++ back) ≡ front) × (drop (length (front ++ back) - size) (front ++ back) ≡ back)
+cut_before_tag front back size is =
+    let long : length (front ++ back) ≡ length front + length back = length-append front back in
+    let cut : length (front ++ back) - size ≡ length front = omega (arith, long, is) in (
+      ap (λ (n : ℕ). take n (front ++ back)) cut ∙ take_at front back (length front) refl,
+      ap (λ (n : ℕ). drop n (front ++ back)) cut ∙ drop_at front back (length front) refl,
+    )
 
 -- The number in the first four bytes.
 pub number_front : (bytes : List ℕ) → 4 ≤ length bytes → number (take 4 bytes) ≡ number bytes
@@ -139,15 +149,11 @@ unseal_of_seal enc seq clear h =
     let front_long : length front ≡ length clear = length_encrypted enc seq clear in
     let back_long : length back ≡ 16 = length_tag enc seq front in
     let long : length (front ++ back) ≡ length front + length back = length-append front back in
-    let cut : length (front ++ back) - 16 ≡ length clear = omega arith in
     let enough : ltb (length (front ++ back)) 20 ≡ false = le-ltb (length (front ++ back)) 20 (omega arith) in
-    let before : take (length (front ++ back) - 16) (front ++ back) ≡ front
-    = ap (λ (n : ℕ). take n (front ++ back)) cut ∙ take_at front back (length clear) front_long in
-    let after : drop (length (front ++ back) - 16) (front ++ back) ≡ back
-    = ap (λ (n : ℕ). drop n (front ++ back)) cut ∙ drop_at front back (length clear) front_long in
+    let parts = cut_before_tag front back 16 back_long in
     ap (λ (xs : List ℕ). unseal enc seq xs) is
-    ∙ rw enough (ap (λ (xs : List ℕ). checked enc seq xs (drop (length (front ++ back) - 16) (front ++ back))) before
-    ∙ (ap (λ (xs : List ℕ). checked enc seq front xs) after
+    ∙ rw enough (ap (λ (xs : List ℕ). checked enc seq xs (drop (length (front ++ back) - 16) (front ++ back))) parts.0
+    ∙ (ap (λ (xs : List ℕ). checked enc seq front xs) parts.1
     ∙ rw (same_bytes back) (ap (λ (xs : List ℕ). Some xs) (encrypted_twice enc seq clear))))
 
 unsealed_is : (enc : List ℕ) (seq : ℕ) (sealed clear : List ℕ) → unseal enc seq sealed ≡ Some clear

@@ -33,6 +33,7 @@ exchanged b = gathered b 0 ∷ gathered b 1 ∷ gathered b 2 ∷ gathered b 3 �
 unfoldable pub spread : ℕ → ℕ → ℕ
 spread key k = bit_and (key / 2 ^ k) 0x01010101010101010101010101010101 * 0xff % 2 ^ 128
 
+-- a round key for eight blocks, as its eight planes
 unfoldable pub key_planes : ℕ → List ℕ
 key_planes key = spread key 0 ∷ spread key 1 ∷ spread key 2 ∷ spread key 3 ∷ spread key 4 ∷ spread key 5 ∷ spread key 6 ∷ spread key 7 ∷ []
 
@@ -46,6 +47,7 @@ images p =
     let q = circuit p in
     bit_xor (slice_index q 0) 0xffffffffffffffffffffffffffffffff ∷ bit_xor (slice_index q 1) 0xffffffffffffffffffffffffffffffff ∷ slice_index q 2 ∷ slice_index q 3 ∷ slice_index q 4 ∷ bit_xor (slice_index q 5) 0xffffffffffffffffffffffffffffffff ∷ bit_xor (slice_index q 6) 0xffffffffffffffffffffffffffffffff ∷ slice_index q 7 ∷ []
 
+-- ShiftRows of all planes (FIPS 197 section 5.1.2)
 unfoldable pub shifted_planes : List ℕ → List ℕ
 shifted_planes p = shift_rows (slice_index p 0) ∷ shift_rows (slice_index p 1) ∷ shift_rows (slice_index p 2) ∷ shift_rows (slice_index p 3) ∷ shift_rows (slice_index p 4) ∷ shift_rows (slice_index p 5) ∷ shift_rows (slice_index p 6) ∷ shift_rows (slice_index p 7) ∷ []
 
@@ -53,9 +55,11 @@ shifted_planes p = shift_rows (slice_index p 0) ∷ shift_rows (slice_index p 1)
 unfoldable pub mixed_plane : ℕ → ℕ → ℕ → ℕ
 mixed_plane b u doubled = bit_xor (bit_xor doubled b) (turned_words (turned_words u))
 
+-- each plane with its bytes turned within a column by one place
 unfoldable pub turned_planes : List ℕ → List ℕ
 turned_planes p = turned_words (slice_index p 0) ∷ turned_words (slice_index p 1) ∷ turned_words (slice_index p 2) ∷ turned_words (slice_index p 3) ∷ turned_words (slice_index p 4) ∷ turned_words (slice_index p 5) ∷ turned_words (slice_index p 6) ∷ turned_words (slice_index p 7) ∷ []
 
+-- MixColumns of all planes (FIPS 197 section 5.1.3)
 unfoldable pub mixed_planes : List ℕ → List ℕ
 mixed_planes p =
     let b = turned_planes p in

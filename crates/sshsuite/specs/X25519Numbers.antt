@@ -41,6 +41,6 @@ climb scalar x1 zero = record { x2 = 1; z2 = 0; x3 = x1; z3 = 1 }
 climb scalar x1 (suc n) =
     if bit_at scalar (254 - n) == 1 then exchanged (step (exchanged (climb scalar x1 n)) x1) else step (climb scalar x1 n) x1
 
--- x_2 * (z_2^(p - 2))
+-- the u-coordinate of the multiple: x_2 * (z_2^(p - 2)), after all 255 bits (RFC 7748 section 5)
 unfoldable pub x25519_number : List ℕ → ℕ → ℕ
 x25519_number scalar u = let s = climb scalar u 255 in times s.x2 (reciprocal s.z2)

@@ -2,7 +2,7 @@
 
 ghost use Rattle.std.specs.Prelude.{◌≡◌, ◌<◌, ◌≤◌, ◌+◌, ◌*◌, drop, length, take};
 ghost use Rattle.sshsuite.specs.Bits.{bit_at, bytes_of_words, high_word_at, word_at};
-ghost use Rattle.sshsuite.specs.Masks.{xored};
+ghost use Rattle.sshwire.specs.Masks.{xored};
 ghost use Rattle.sshsuite.specs.Sealing.{filled_up};
 
 /// The 64-bit word at a place of bytes, the lowest byte first.

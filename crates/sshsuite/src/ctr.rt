@@ -4,7 +4,7 @@
 ghost use Rattle.std.specs.Prelude.{◌≡◌, ◌<◌, ◌≤◌, ◌^◌, IfOk, length, option_map};
 ghost use Rattle.sshsuite.specs.CipherNames.{is_short_key, keys_by};
 ghost use Rattle.sshsuite.specs.CounterMode.{stream_block};
-ghost use Rattle.sshsuite.specs.Masks.{xored};
+ghost use Rattle.sshwire.specs.Masks.{xored};
 ghost use Rattle.sshsuite.specs.Ctr.{checked, clear_length, counter_of, covers_sealed, crossed, head, is_by_sha512, mask, next_iv, seal, tag, tag_length, tag_over, unseal};
 
 use crate::aes::{cipher, number_at};

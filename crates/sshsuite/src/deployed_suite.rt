@@ -232,40 +232,40 @@ impl Suite for DeployedSuite {
         Ok(Vec::from_slice(alloc, &Sha256::digest(input))?)
     }
 
-    fn blob(&self, alloc: Global, alg: &str, secret: &[u8]) -> Result<Vec<u8>, Memory> {
-        if is_held(alg, secret) {
-            wrapped(alloc, &public_key(secret))
+    fn blob(&self, alloc: Global, algorithm: &str, private_key: &[u8]) -> Result<Vec<u8>, Memory> {
+        if is_held(algorithm, private_key) {
+            wrapped(alloc, &public_key(private_key))
         } else {
-            copy_public_key(alloc, secret)
+            copy_public_key(alloc, private_key)
         }
     }
 
-    fn holds(&self, alg: &str, secret: &[u8]) -> bool {
-        is_held(alg, secret)
+    fn holds(&self, algorithm: &str, private_key: &[u8]) -> bool {
+        is_held(algorithm, private_key)
     }
 
     fn sign(
         &self,
         alloc: Global,
         _alg: &str,
-        secret: &[u8],
+        private_key: &[u8],
         input: &[u8],
     ) -> Result<Vec<u8>, Memory> {
         wrapped(
             alloc,
-            &signature(alloc, secret, &public_key(secret), input)?,
+            &signature(alloc, private_key, &public_key(private_key), input)?,
         )
     }
 
     fn verify(
         &self,
         alloc: Global,
-        alg: &str,
+        algorithm: &str,
         blob: &[u8],
         input: &[u8],
         found: &[u8],
     ) -> Result<bool, Memory> {
-        verify(alloc, alg, blob, input, found)
+        verify(alloc, algorithm, blob, input, found)
     }
 
     ghost lawful = { λ _. deployed_lawful };
@@ -304,18 +304,18 @@ fn aes_length(cipher: &str) -> u8
 
 /// Whether these bytes are a private key of ssh-ed25519, which has 32.
 #[tactic(auto, unfolding(crate::specs::Deployed::is_held))]
-pub(crate) fn is_held(alg: &str, secret: &[u8]) -> bool
-    ensures { result ≡ is_held alg.now secret.now }
+pub(crate) fn is_held(algorithm: &str, private_key: &[u8]) -> bool
+    ensures { result ≡ is_held algorithm.now private_key.now }
 {
-    is_ed25519(alg) && secret.len() == 32
+    is_ed25519(algorithm) && private_key.len() == 32
 }
 
 /// Whether this is the name of ssh-ed25519.
 #[tactic(auto, unfolding(crate::specs::Deployed::is_ed25519))]
-fn is_ed25519(alg: &str) -> bool
-    ensures { result ≡ is_ed25519 alg.now }
+fn is_ed25519(algorithm: &str) -> bool
+    ensures { result ≡ is_ed25519 algorithm.now }
 {
-    alg == ED25519
+    algorithm == ED25519
 }
 
 /// The share of these random bytes (RFC 4253 section 8, RFC 7748 section 6.1).
@@ -400,12 +400,18 @@ fn is_verified(alloc: Global, blob: &[u8], input: &[u8], found: &[u8]) -> Result
 
 /// Whether the signature is that of the input by the key of this blob, both of this algorithm.
 #[tactic(auto, unfolding(crate::specs::Deployed::verify))]
-fn verify(alloc: Global, alg: &str, blob: &[u8], input: &[u8], found: &[u8]) -> Result<bool, Memory>
-    ensures { IfOk result (λ b. b ≡ verify alg.now blob.now input.now found.now) }
+fn verify(
+    alloc: Global,
+    algorithm: &str,
+    blob: &[u8],
+    input: &[u8],
+    found: &[u8],
+) -> Result<bool, Memory>
+    ensures { IfOk result (λ b. b ≡ verify algorithm.now blob.now input.now found.now) }
 {
-    if is_rsa(alg) {
-        rsa_verify(alloc, alg, blob, input, found)
-    } else if is_ed25519(alg) && blob.len() == 51 && found.len() == 83 {
+    if is_rsa(algorithm) {
+        rsa_verify(alloc, algorithm, blob, input, found)
+    } else if is_ed25519(algorithm) && blob.len() == 51 && found.len() == 83 {
         is_verified(alloc, blob, input, found)
     } else {
         Ok(false)

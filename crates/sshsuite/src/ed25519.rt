@@ -2,13 +2,14 @@
 
 ghost use Rattle.std.specs.Prelude.{◌≡◌, IfOk, Some, drop, length, take};
 ghost use Rattle.sha2.specs.Sha512.{sha512};
-ghost use Rattle.sshsuite.specs.Ed25519.{hash_of, is_signature, prefix_of, public_key, secret_scalar, signature, verifies};
+ghost use Rattle.sshsuite.specs.Ed25519.{is_signature, prefix_of, public_key, secret_scalar, signature, verifies};
 
 use crate::bits::{first_half, second_half};
 use crate::curve25519::clamped;
 use crate::edwards25519::{
     BASE_POINT, Point, add_points, decode_point, encode_point, multiply, multiply_public, negate,
 };
+use crate::hashes::hash_512;
 use crate::scalar::{encode_scalar, is_reduced, scalar_from, times_plus};
 use sha2::{Digest, Sha512};
 use sshwire::Memory;
@@ -46,21 +47,9 @@ pub(crate) fn public_key(private_key: &[u8]) -> [u8; 32]
     encode_point(multiply(&secret_scalar(private_key), BASE_POINT))
 }
 
-/// SHA-512 of three parts.
-#[tactic(auto, unfolding(crate::specs::Ed25519::hash_of))]
-fn hash_of(first: &[u8], second: &[u8], third: &[u8]) -> [u8; 64]
-    ensures { result ≡ hash_of first.now second.now third.now }
-{
-    let mut hasher = Sha512::new();
-    hasher.update(first);
-    hasher.update(second);
-    hasher.update(third);
-    hasher.finalize()
-}
-
 /// The signature of the input, of 64 bytes (RFC 8032 section 5.1.6), by a private key and its public key: by another
 /// one the private key would come to light.
-#[tactic(auto, unfolding(crate::specs::Ed25519::signature))]
+#[tactic(auto, unfolding(crate::specs::Ed25519::hash_of, crate::specs::Ed25519::signature))]
 pub(crate) fn signature(
     alloc: Global,
     private_key: &[u8],
@@ -71,9 +60,9 @@ pub(crate) fn signature(
     ensures value { IfOk result (λ v. v.items ≡ signature private_key.now input.now) }
     ensures long { IfOk result (λ v. length v.items ≡ 64) }
 {
-    let nonce = scalar_from(&hash_of(&prefix_of(private_key), input, &[]));
+    let nonce = scalar_from(&hash_512(&prefix_of(private_key), input, &[]));
     let point = encode_point(multiply(&encode_scalar(nonce), BASE_POINT));
-    let challenge = scalar_from(&hash_of(&point, key, input));
+    let challenge = scalar_from(&hash_512(&point, key, input));
     let answer = encode_scalar(times_plus(&secret_scalar(private_key), challenge, nonce));
     let mut signature = Vec::from_slice(alloc, &point)?;
     signature.extend_from_slice(&answer)?;
@@ -97,12 +86,12 @@ pub(crate) fn is_signature(key: &[u8], input: &[u8], signature: &[u8]) -> bool
 
 /// Whether the two halves of a signature, R and s, are those of the input by the key of this point: s B is
 /// R and k times the point. All of it is public.
-#[tactic(auto, unfolding(crate::specs::Ed25519::verifies))]
+#[tactic(auto, unfolding(crate::specs::Ed25519::hash_of, crate::specs::Ed25519::verifies))]
 fn verifies(p: Point, key: &[u8], input: &[u8], point: &[u8], answer: &[u8]) -> bool
     requires { length answer.now ≡ 32 }
     ensures { result ≡ verifies (Some p) key.now input.now point.now answer.now }
 {
-    let challenge = encode_scalar(scalar_from(&hash_of(point, key, input)));
+    let challenge = encode_scalar(scalar_from(&hash_512(point, key, input)));
     let sum = add_points(
         multiply_public(answer, BASE_POINT),
         multiply_public(&challenge, negate(p)),

@@ -3,7 +3,7 @@
 ghost use Rattle.std.specs.Prelude.{◌≡◌, ◌<◌, ◌≤◌, ◌^◌, ◌+◌, ◌%◌, IfOk, drop, length, option_map, take};
 ghost use Rattle.sshsuite.specs.CounterMode.{stream_to};
 ghost use Rattle.sshsuite.specs.Gcm.{checked, first_counter, first_eight, mask_by, next_iv, raised, seal, tag_by, unseal};
-ghost use Rattle.sshsuite.specs.Masks.{xored};
+ghost use Rattle.sshwire.specs.Masks.{xored};
 
 use crate::aes::number_at;
 use crate::bits::xor_with;

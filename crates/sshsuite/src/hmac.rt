@@ -5,9 +5,10 @@ ghost use Rattle.sha2.specs.Sha256.{sha256};
 ghost use Rattle.sha2.specs.Sha512.{sha512};
 ghost use Rattle.sshwire.specs.Types.{uint32};
 ghost use Rattle.sshsuite.specs.Hmac.{block_key, filled, hmac_sha256, hmac_sha512};
-ghost use Rattle.sshsuite.specs.Masks.{xored};
+ghost use Rattle.sshwire.specs.Masks.{xored};
 
 use crate::bits::xor_with;
+use crate::hashes::{hash_256, hash_512};
 use sha2::{Digest, Sha256, Sha512};
 
 /// What the key's block is XORed with for the inner hash, and for the outer one.
@@ -56,28 +57,6 @@ fn block_of_128(key: &[u8]) -> [u8; 128]
     } else {
         filled(key)
     }
-}
-
-/// SHA-256 of three parts.
-fn hash_256(first: &[u8], second: &[u8], third: &[u8]) -> [u8; 32]
-    ensures { result ≡ sha256 (first.now ++ (second.now ++ third.now)) }
-{
-    let mut hasher = Sha256::new();
-    hasher.update(first);
-    hasher.update(second);
-    hasher.update(third);
-    hasher.finalize()
-}
-
-/// SHA-512 of three parts.
-fn hash_512(first: &[u8], second: &[u8], third: &[u8]) -> [u8; 64]
-    ensures { result ≡ sha512 (first.now ++ (second.now ++ third.now)) }
-{
-    let mut hasher = Sha512::new();
-    hasher.update(first);
-    hasher.update(second);
-    hasher.update(third);
-    hasher.finalize()
 }
 
 /// The HMAC by SHA-256 of a number and a packet.

@@ -124,38 +124,38 @@ impl Suite for KeyedSuite<'_> {
         DeployedSuite.digest(alloc, kex, input)
     }
 
-    fn blob(&self, alloc: Global, alg: &str, secret: &[u8]) -> Result<Vec<u8>, Memory> {
-        if is_held(alg, secret) {
-            wrapped(alloc, &self.public_key(secret))
+    fn blob(&self, alloc: Global, algorithm: &str, private_key: &[u8]) -> Result<Vec<u8>, Memory> {
+        if is_held(algorithm, private_key) {
+            wrapped(alloc, &self.public_key(private_key))
         } else {
-            copy_public_key(alloc, secret)
+            copy_public_key(alloc, private_key)
         }
     }
 
-    fn holds(&self, alg: &str, secret: &[u8]) -> bool {
-        is_held(alg, secret)
+    fn holds(&self, algorithm: &str, private_key: &[u8]) -> bool {
+        is_held(algorithm, private_key)
     }
 
     fn sign(
         &self,
         alloc: Global,
         _alg: &str,
-        secret: &[u8],
+        private_key: &[u8],
         input: &[u8],
     ) -> Result<Vec<u8>, Memory> {
-        let key = self.public_key(secret);
-        wrapped(alloc, &signature(alloc, secret, &key, input)?)
+        let key = self.public_key(private_key);
+        wrapped(alloc, &signature(alloc, private_key, &key, input)?)
     }
 
     fn verify(
         &self,
         alloc: Global,
-        alg: &str,
+        algorithm: &str,
         blob: &[u8],
         input: &[u8],
         found: &[u8],
     ) -> Result<bool, Memory> {
-        DeployedSuite.verify(alloc, alg, blob, input, found)
+        DeployedSuite.verify(alloc, algorithm, blob, input, found)
     }
 
     ghost lawful = { λ _. deployed_lawful };

@@ -20,6 +20,7 @@ mod field_element;
 mod gcm;
 mod ghash;
 mod group14;
+mod hashes;
 mod hmac;
 mod hybrid;
 mod key_pair;

@@ -1,7 +1,7 @@
 //! chacha20-poly1305@openssh.com (OpenSSH PROTOCOL.chacha20poly1305).
 
 ghost use Rattle.std.specs.Prelude.{◌≡◌, ◌<◌, ◌≤◌, ◌^◌, IfOk, drop, length, option_map, take};
-ghost use Rattle.sshsuite.specs.Masks.{xored};
+ghost use Rattle.sshwire.specs.Masks.{xored};
 ghost use Rattle.sshsuite.specs.Sealing.{checked, encrypted, filled_up, head, length_key, mask, payload_key, seal, tag, unseal, whole_key};
 
 use crate::bits::{filled_up, first_half, second_half, xor_with};

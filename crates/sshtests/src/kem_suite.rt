@@ -2,8 +2,8 @@
 //! program.
 
 use crate::compare::same;
+use sshlabsuites::KemSuite;
 use sshpacket::{Response, Suite};
-use sshsuites::KemSuite;
 use std::alloc::Global;
 use std::process::Abort;
 use std::test::Fail;

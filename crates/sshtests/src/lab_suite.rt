@@ -2,8 +2,8 @@
 //! by another program.
 
 use crate::compare::same;
+use sshlabsuites::LabSuite;
 use sshpacket::Suite;
-use sshsuites::LabSuite;
 use std::test::Fail;
 
 #[test]

@@ -2,8 +2,8 @@
 //! begins with given keys at a given number, tells the number of each packet, and gives both up.
 
 use crate::compare::{has_text, same};
+use sshlabsuites::LabSuite;
 use sshpacket::{KeyParts, Keys, PacketFault, PacketReader, PacketStep, write_clear, write_sealed};
-use sshsuites::LabSuite;
 use std::alloc::Global;
 use std::process::Abort;
 use std::test::Fail;

@@ -7,7 +7,7 @@ ghost use Rattle.sshtests.specs.Resting.{IsClientOf, IsServerOf};
 
 use crate::replays::{Lab, Recording, Replayed, draws_of, end_of, make_lab, record};
 use sshcore::{AskingEndpoint, ClientConfig, Fed, ServerConfig, Silent};
-use sshsuites::LabSuite;
+use sshlabsuites::LabSuite;
 use std::alloc::Global;
 use std::test::Fail;
 

@@ -1,7 +1,7 @@
 //! What was recorded of one connection, given to another endpoint of the same config.
 
 use sshcore::{Attempt, ClientConfig, Credential, Draws, End, Endpoint, Fault, ServerConfig};
-use sshsuites::{LabDecisions, LabSuite, lab_client_parts, lab_server_parts};
+use sshlabsuites::{LabDecisions, LabSuite, lab_client_parts, lab_server_parts};
 use std::alloc::Global;
 use std::test::Fail;
 

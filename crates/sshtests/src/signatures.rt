@@ -6,8 +6,8 @@ ghost use Rattle.sshtests.specs.Resting.{IsClientOf};
 
 use crate::replays::{Replayed, draws_of, end_of, make_lab, record};
 use sshcore::{AskingEndpoint, Attempt, ClientConfig, Credential, Fed, Silent};
+use sshlabsuites::{LabSuite, lab_client_parts};
 use sshpacket::{KeysElsewhere, Suite};
-use sshsuites::{LabSuite, lab_client_parts};
 use std::alloc::Global;
 use std::test::Fail;
 

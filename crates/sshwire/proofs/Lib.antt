@@ -12,3 +12,4 @@ pub mod EndLemmas
 pub mod ShortestBody
 pub mod TypeLemmas
 pub mod TypeRefusals
+pub mod OwnedLemmas

@@ -18,6 +18,7 @@ use Rattle.sshwire.specs.LineReaderData.{LineReaderData, Progress, Waits, Finish
 abbrev pub line_reader_data : Inside → LineReaderData
 line_reader_data r = r.lines.state
 
+-- what the one field of a `LineReader` always is: a reader of the strict form
 abbrev pub IsInside : Inside → Type 0
 IsInside r = r.lines.form ≡ Strict
 
@@ -47,11 +48,12 @@ abbrev pub step_of : PeerStep → LineStep
 step_of peer.More = step.More
 step_of (peer.Done version used) = step.Done version used
 
+-- an answer of `PeerLineReader::feed`, as `LineReader::feed` has it
 abbrev pub answer_of : Result PeerStep WireFault → Result LineStep WireFault
 answer_of (Ok s) = Ok (step_of s)
 answer_of (Err code) = Err code
 
--- the refusal is given again, and nothing is used
+-- the refusal is given again, and nothing is used (profile)
 pub record IsAgain (code : WireFault) (result : Result LineStep WireFault) (new : LineReaderData) : Type 0 where
   pub answer : result ≡ Err code
   pub for_good : new.progress ≡ Refused code
@@ -63,38 +65,43 @@ StandsOpen k received (Waits left line) = LineOpen k received left line
 StandsOpen k received Finished = ⊥
 StandsOpen k received (Refused code) = ⊥
 
--- A refusal tells its place, the last byte used, unless memory ran out.
+-- A refusal tells its place, the last byte used, unless memory ran out (profile).
 abbrev pub TellsRefusalBy : LineForm → ℕ → List ℕ → List ℕ → WireFault → LineReaderData → Type 0
 TellsRefusalBy form k received piece code new =
     code ≢ Memory → (place : ℕ) × (place + 1 ≡ length received + new.taken) × LineRefusedBy form k (received ++ piece) place code
 
+-- a refusal is that of its place, the last byte used, by the strict form, unless memory ran out (profile)
 abbrev pub TellsRefusal : ℕ → List ℕ → List ℕ → WireFault → LineReaderData → Type 0
 TellsRefusal k received piece code new = TellsRefusalBy Strict k received piece code new
 
--- no place of the bytes is refused
+-- no place of the bytes is refused (RFC 4253 section 4.2)
 abbrev pub NoneRefusedBy : LineForm → ℕ → List ℕ → Type 0
 NoneRefusedBy form k bytes = (place : ℕ) (code : WireFault) → LineRefusedBy form k bytes place code → ⊥
 
+-- no place of the bytes is refused, by the strict form (RFC 4253 section 4.2)
 abbrev pub NoneRefused : ℕ → List ℕ → Type 0
 NoneRefused k bytes = NoneRefusedBy Strict k bytes
 
--- what the answer says of the bytes received so far and the piece
+-- what the answer says of the bytes received so far and the piece: still open; a preamble that ends at the last byte used; or refused (RFC
+-- 4253 section 4.2)
 abbrev pub PreambleAnswerBy : LineForm → ℕ → List ℕ → List ℕ → Result LineStep WireFault → LineReaderData → Type 0
 PreambleAnswerBy form k received piece (Ok step.More) new = StandsOpen k (received ++ piece) new.progress × (new.taken ≡ length piece)
 PreambleAnswerBy form k received piece (Ok (step.Done version used)) new =
     (used ≤ length piece) × PreambleBy form k version (received ++ take used piece) × (new.progress ≡ Finished) × (new.taken ≡ used)
 PreambleAnswerBy form k received piece (Err code) new = TellsRefusalBy form k received piece code new × (new.progress ≡ Refused code)
 
+-- what the answer says of the bytes received so far and the piece, by the strict form (RFC 4253 section 4.2)
 abbrev pub PreambleAnswer : ℕ → List ℕ → List ℕ → Result LineStep WireFault → LineReaderData → Type 0
 PreambleAnswer k received piece result new = PreambleAnswerBy Strict k received piece result new
 
--- No other answer comes than the one that the bytes received so far and the piece have, unless memory runs out.
+-- No other answer comes than the one that the bytes received so far and the piece have, unless memory runs out (RFC 4253 section 4.2).
 pub record OnlyPreambleAnswerBy (form : LineForm) (k : ℕ) (received piece : List ℕ) (result : Result LineStep WireFault) : Type 0 where
   pub more : (left : ℕ) (line : List ℕ) → LineOpen k (received ++ piece) left line → (result ≡ Ok step.More) ⊎ (result ≡ Err Memory)
   pub done : (used : ℕ) (text : List ℕ) → used ≤ length piece → PreambleBy form k text (received ++ take used piece)
       → (result ≡ Ok (step.Done text used)) ⊎ (result ≡ Err Memory)
   pub refused : (place : ℕ) (code : WireFault) → LineRefusedBy form k (received ++ piece) place code → (result ≡ Err code) ⊎ (result ≡ Err Memory)
 
+-- no other answer is returned than the one that all the bytes have, by the strict form, unless memory runs out (RFC 4253 section 4.2)
 abbrev pub OnlyPreambleAnswer : ℕ → List ℕ → List ℕ → Result LineStep WireFault → Type 0
 OnlyPreambleAnswer k received piece result = OnlyPreambleAnswerBy Strict k received piece result
 

@@ -8,4 +8,5 @@ pub mod Types
 pub mod TypeReadings
 pub mod TypeRefusals
 pub mod ByteLaws
+pub mod Masks
 pub mod Names

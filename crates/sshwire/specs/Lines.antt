@@ -65,6 +65,7 @@ pub record IsWholeLine (line : List ℕ) : Type 0 where
   pub version : IsVersionText (text_in line)
   pub line_is : line ≡ version_line (text_in line)
 
+-- a line with its LF
 abbrev pub with_lf : List ℕ → List ℕ
 with_lf line = line ++ 10 ∷ []
 
@@ -83,8 +84,8 @@ pub record IsDeployedByte (b : ℕ) : Type 0 where
   pub above_space : 33 ≤ b
   pub printable : b ≤ 126
 
--- The text of a deployed peer's version line, without what ends it: it differs from IsVersionText in what it begins with and
--- in the bytes of the softwareversion.
+-- The text of a deployed peer's version line, as this role reads it (RFC 4253 sections 4.2 and 5.1; minus signs are profile). It has what
+-- it begins with, a softwareversion of at least one byte, and a space and comments where there are comments. It has at most 253 bytes.
 pub record IsDeployedText (by : ReadBy) (text : List ℕ) : Type 0 where
   pub protocol : List ℕ
   pub is_protocol : IsProtocol by protocol
@@ -117,6 +118,7 @@ pub record IsUnfinished (line : List ℕ) : Type 0 where
   pub bytes : AllByRecursion IsLineByte line
   pub short : length line ≤ LINE_LIMIT - 1
 
+-- the line begins with `SSH-`
 abbrev pub BeginsSsh : List ℕ → Type 0
 BeginsSsh line = (rest : List ℕ) × (line ≡ ssh ++ rest)
 
@@ -137,6 +139,7 @@ pub record PreambleBy (form : LineForm) (k : ℕ) (text bytes : List ℕ) : Type
   pub version : IsTextBy form text
   pub bytes_are : IsLineAfter form (joined others) text bytes
 
+-- at most k other lines, each with its LF, and then the version line of the text, by the strict form (RFC 4253 section 4.2; k is profile)
 abbrev pub Preamble : ℕ → List ℕ → List ℕ → Type 0
 Preamble k text bytes = PreambleBy Strict k text bytes
 
@@ -163,6 +166,7 @@ IsCauseBy form k lines line byte TooManyLines =
     (byte ≡ 10) × IsOtherLine line × AllByRecursion IsOtherLine lines × (length lines ≡ k)
 IsCauseBy form k lines line byte _ = ⊥
 
+-- why a byte is refused, by the strict form (profile)
 abbrev pub IsCause : ℕ → List (List ℕ) → List ℕ → ℕ → WireFault → Type 0
 IsCause k lines line byte code = IsCauseBy Strict k lines line byte code
 
@@ -174,6 +178,7 @@ pub record HasCauseBy (form : LineForm) (k : ℕ) (bytes : List ℕ) (i : ℕ) (
   pub at : IsPlace bytes i lines line byte
   pub cause : IsCauseBy form k lines line byte code
 
+-- at place i is a cause of this refusal, by the strict form
 abbrev pub HasCause : ℕ → List ℕ → ℕ → WireFault → Type 0
 HasCause k bytes i code = HasCauseBy Strict k bytes i code
 
@@ -183,6 +188,7 @@ pub record LineRefusedBy (form : LineForm) (k : ℕ) (bytes : List ℕ) (i : ℕ
   pub least : (j : ℕ) (other : WireFault) → j < i → HasCauseBy form k bytes j other → ⊥
   pub no_preamble : (j : ℕ) (text : List ℕ) → j ≤ i → PreambleBy form k text (take j bytes) → ⊥
 
+-- The bytes are refused at place i, by the strict form: it is the least place with a cause, and no preamble ends before it (profile).
 abbrev pub LineRefused : ℕ → List ℕ → ℕ → WireFault → Type 0
 LineRefused k bytes i code = LineRefusedBy Strict k bytes i code
 

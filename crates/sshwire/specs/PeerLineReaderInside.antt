@@ -13,6 +13,7 @@ progress_of ending.Open left line = Waits left line
 progress_of ending.Done left line = Finished
 progress_of (ending.Refused code) left line = Refused code
 
+-- the twin of a `PeerLineReader`
 abbrev pub peer_line_reader_data : Inside → PeerLineReaderData
 peer_line_reader_data r = record { state = record { progress = progress_of r.ending r.left r.line.items; taken = r.taken }; form = r.form }
 
@@ -21,5 +22,6 @@ abbrev pub HoldsLine : Ending → List ℕ → Type 0
 HoldsLine ending.Open line = IsUnfinished line
 HoldsLine _ line = line ≡ []
 
+-- what the fields of a `PeerLineReader` always are: an open one holds an unfinished line, any other nothing
 abbrev pub IsInside : Inside → Type 0
 IsInside r = HoldsLine r.ending r.line.items

@@ -12,12 +12,15 @@ use Rattle.sshwire.specs.declared.line_form.ReadBy.TheVariants.{Client, Server}
 use Rattle.sshwire.specs.declared.fault.WireFault.TheVariants.{Line, TooLong, TooManyLines, Memory}
 use Rattle.sshwire.specs.Lines.{IsUnfinished, ssh, ssh_1_99, ssh_2_0, text_in, with_lf}
 
+-- IsSoftwareByte, as a test
 abbrev pub is_software_byte : ℕ → Bool
 is_software_byte b = nat_le 33 b && (nat_le b 126 && not (b == 45))
 
+-- IsCommentByte, as a test
 abbrev pub is_comment_byte : ℕ → Bool
 is_comment_byte b = nat_le 32 b && nat_le b 126
 
+-- the byte is a space
 abbrev pub is_space : ℕ → Bool
 is_space b = b == 32
 
@@ -27,7 +30,7 @@ is_software_and_comments bytes =
     nat_lt 0 (length (before_first is_space bytes))
     && (list_all is_software_byte (before_first is_space bytes) && list_all is_comment_byte (after_first is_space bytes))
 
--- IsVersionText, as a test
+-- IsVersionText, as a test (RFC 4253 section 4.2)
 unfoldable pub is_version_text : List ℕ → Bool
 is_version_text text = nat_le (length text) (LINE_LIMIT - 2) && (starts_with nat_eq text ssh_2_0 && is_software_and_comments (drop 8 text))
 
@@ -44,6 +47,7 @@ are_parts software comments =
 unfoldable pub is_version_line : List ℕ → Bool
 is_version_line line = ends_with nat_eq line (13 ∷ 10 ∷ []) && is_version_text (text_in line)
 
+-- IsDeployedByte, as a test
 abbrev pub is_deployed_byte : ℕ → Bool
 is_deployed_byte b = nat_le 33 b && nat_le b 126
 
@@ -62,7 +66,7 @@ abbrev pub has_protocol : ReadBy → List ℕ → Bool
 has_protocol Client text = is_deployed_after ssh_2_0 text || is_deployed_after ssh_1_99 text
 has_protocol Server text = is_deployed_after ssh_2_0 text
 
--- IsDeployedText, as a test
+-- IsDeployedText, as a test (RFC 4253 sections 4.2 and 5.1)
 unfoldable pub is_deployed_text : ReadBy → List ℕ → Bool
 is_deployed_text by text = nat_le (length text) (LINE_LIMIT - 2) && has_protocol by text
 
@@ -75,6 +79,7 @@ abbrev pub is_line_by : LineForm → List ℕ → Bool
 is_line_by Strict line = is_version_line (with_lf line)
 is_line_by (Deployed by) line = is_deployed_text by (before_cr line)
 
+-- the text of the version line before an LF, by its form
 abbrev pub text_by : LineForm → List ℕ → List ℕ
 text_by Strict line = text_in (with_lf line)
 text_by (Deployed by) line = before_cr line
@@ -99,6 +104,7 @@ reading_by form left line (b ∷ bs) =
     else if nat_le (LINE_LIMIT - 1) (length line) then Stop TooLong bs
     else reading_by form left (line ++ b ∷ []) bs
 
+-- reads on after an unfinished line, with so many other lines left, by the strict form
 abbrev pub reading : ℕ → List ℕ → List ℕ → Reading
 reading left line bytes = reading_by Strict left line bytes
 
@@ -108,6 +114,7 @@ then_on_by form (More left line) more = reading_by form left line more
 then_on_by form (Got text rest) more = Got text (rest ++ more)
 then_on_by form (Stop code rest) more = Stop code (rest ++ more)
 
+-- goes on with more bytes, by the strict form
 abbrev pub then_on : Reading → List ℕ → Reading
 then_on r more = then_on_by Strict r more
 

@@ -15,47 +15,53 @@ abbrev pub ◌>>=◌ : {A B : Type 0} → Result A WireFault → (A → Result B
 (Ok x) >>= f = f x
 (Err e) >>= f = Err e
 
+-- the boolean at the front, and what is left (RFC 4251 section 5)
 abbrev pub boolean_at : List ℕ → Result (Bool × List ℕ) WireFault
 boolean_at [] = Err Short
 boolean_at (b ∷ bs) = Ok (not (b == 0), bs)
 
+-- the uint32 at the front, and what is left (RFC 4251 section 5)
 unfoldable pub uint32_at : List ℕ → Result (ℕ × List ℕ) WireFault
 uint32_at bytes = if nat_lt (length bytes) 4 then Err Short else Ok (big_number 4 bytes, drop 4 bytes)
 
+-- the string at the front, and what is left (RFC 4251 section 5)
 unfoldable pub string_at : List ℕ → Result (List ℕ × List ℕ) WireFault
 string_at bytes = do
   n ← uint32_at bytes
   if nat_lt (length n.1) n.0 then Err Short else Ok (take n.0 n.1, drop n.0 n.1)
 
--- the first byte isn't 00 with no byte or one below 80 after it, nor ff with one from 80 on
+-- the first byte isn't 00 with no byte or one below 80 after it, nor ff with one from 80 on (RFC 4251 section 5)
 abbrev pub is_canonical : List ℕ → Bool
 is_canonical [] = true
 is_canonical (a ∷ []) = not (a == 0)
 is_canonical (a ∷ b ∷ more) = not (a == 0 && nat_lt b 128) && not (a == 255 && nat_le 128 b)
 
--- what an Mpint holds
+-- what an `Mpint` always holds: the shortest body of its number, fewer than 2^32 bytes (RFC 4251 section 5)
 pub record IsMpintBody (body : List ℕ) : Type 0 where
   pub bytes : IsBytes body
   pub canonical : is_canonical body ≡ true
   pub short : length body < 2 ^ 32
 
--- the number of a body
+-- a string's body as an mpint; refused if it isn't the shortest of its number (RFC 4251 section 5)
 unfoldable pub mpint_in : List ℕ → Result (List ℕ) WireFault
 mpint_in body = if is_canonical body then Ok body else Err NotCanonical
 
+-- the mpint at the front, as its body, and what is left (RFC 4251 section 5)
 unfoldable pub mpint_at : List ℕ → Result (List ℕ × List ℕ) WireFault
 mpint_at bytes = do
   s ← string_at bytes
   body ← mpint_in s.0
   Ok (body, s.1)
 
+-- IsNameByte, as a test
 abbrev pub is_name_byte : ℕ → Bool
 is_name_byte b = nat_le 33 b && (nat_le b 126 && not (b == 44))
 
--- IsName, as a test
+-- IsName, as a test (RFC 4251 section 6)
 abbrev pub is_name : List ℕ → Bool
 is_name name = nat_le 1 (length name) && (nat_le (length name) NAME_LIMIT && list_all is_name_byte name)
 
+-- the byte is a comma
 abbrev pub is_comma : ℕ → Bool
 is_comma b = b == 44
 
@@ -63,12 +69,12 @@ is_comma b = b == 44
 abbrev pub parts : List ℕ → List (List ℕ)
 parts body = slice_split is_comma body
 
--- the names of a body
+-- the names of a string's body; refused if one of them is no name, and none of an empty body (RFC 4251 section 5)
 unfoldable pub names_in : List ℕ → Result (List (List ℕ)) WireFault
 names_in body =
     if length body == 0 then Ok [] else if list_all is_name (parts body) then Ok (parts body) else Err Name
 
--- what stands between the commas of a body, where no bytes are no names
+-- what stands between the commas of a body, where no bytes are no names (RFC 4251 section 5)
 unfoldable pub names_of : List ℕ → List (List ℕ)
 names_of body = if length body == 0 then [] else parts body
 
@@ -78,7 +84,7 @@ pub record NamesBody (body : List ℕ) (count : ℕ) : Type 0 where
   pub short : length body < 2 ^ 32
   pub count_is : count ≡ length (names_of body)
 
--- the same, closed: what callers hold is then one fact a list
+-- what a `BorrowedNameList` always lends: the body of a name-list, fewer than 2^32 bytes, and how many names it has (RFC 4251 section 5)
 unfoldable pub IsNamesBody : List ℕ → ℕ → Type 0
 IsNamesBody body count = NamesBody body count
 
@@ -93,10 +99,11 @@ pub record NameTable (body ends : List ℕ) : Type 0 where
   pub short : length body < 2 ^ 32
   pub ends_are : ends ≡ ends_from 0 (names_of body)
 
--- the same, closed
+-- what a `NameList` always holds: the body of a name-list, fewer than 2^32 bytes, and the places where its names end (RFC 4251 section 5)
 unfoldable pub IsNameTable : List ℕ → List ℕ → Type 0
 IsNameTable body ends = NameTable body ends
 
+-- the name-list at the front, and what is left (RFC 4251 section 5)
 unfoldable pub names_at : List ℕ → Result (List (List ℕ) × List ℕ) WireFault
 names_at bytes = do
   s ← string_at bytes
@@ -108,7 +115,7 @@ abbrev pub Gives : {X Y : Type 0} → (X → Y) → Result X WireFault → Resul
 Gives view (Ok x) read = read ≡ Ok (view x)
 Gives view (Err e) read = e ≢ Memory → read ≡ Err e
 
--- the same of a reader, which a refusal leaves unchanged
+-- what a call of a reader answers: what the reading gives, unless memory runs out; a refusal leaves the reader unchanged
 abbrev pub Takes : {X Y : Type 0} → (X → Y) → Result X WireFault → (old new : List ℕ) → Result (Y × List ℕ) WireFault → Type 0
 Takes view (Ok x) old new read = read ≡ Ok (view x, new)
 Takes view (Err e) old new read = (new ≡ old) × (e ≢ Memory → read ≡ Err e)

@@ -18,12 +18,15 @@ pub record IsCutAfterLength (bytes : List ℕ) : Type 0 where
   pub bytes_are : bytes ≡ uint32 len ++ rest
   pub fewer : length rest < len
 
+-- why there is no boolean at the front: no byte is there (RFC 4251 section 5)
 abbrev pub BooleanRefused : List ℕ → WireFault → Type 0
 BooleanRefused bytes code = OnlyShort (length bytes ≡ 0) code
 
+-- why there is no uint32 at the front: fewer than four bytes are there (RFC 4251 section 5)
 abbrev pub Uint32Refused : List ℕ → WireFault → Type 0
 Uint32Refused bytes code = OnlyShort (length bytes < 4) code
 
+-- why there is no string at the front: its length isn't there, or fewer bytes than that follow (RFC 4251 section 5)
 abbrev pub StringRefused : List ℕ → WireFault → Type 0
 StringRefused bytes code = OnlyShort ((length bytes < 4) ⊎ IsCutAfterLength bytes) code
 
@@ -47,11 +50,13 @@ IsNotShortest body = IsShortestBody body → ⊥
 abbrev pub AreNoNames : List ℕ → Type 0
 AreNoNames body = (names : List (List ℕ)) → AreNames names → body ≡ names_body names → ⊥
 
+-- why there is no mpint at the front: no string is there (`Short`), or its body isn't the shortest (`NotCanonical`) (RFC 4251 section 5)
 abbrev pub MpintRefused : List ℕ → WireFault → Type 0
 MpintRefused bytes Short = NoString bytes
 MpintRefused bytes NotCanonical = BeginsString IsNotShortest bytes
 MpintRefused bytes _ = ⊥
 
+-- why there is no name-list at the front: no string is there (`Short`), or its body isn't names (`Name`) (RFC 4251 section 5)
 abbrev pub NameListRefused : List ℕ → WireFault → Type 0
 NameListRefused bytes Short = NoString bytes
 NameListRefused bytes Name = BeginsString AreNoNames bytes

@@ -24,6 +24,7 @@ boolean value = (if value then 1 else 0) ∷ []
 abbrev pub uint32 : ℕ → List ℕ
 uint32 n = big_bytes 4 n
 
+-- the text is the uint32 of this number, which is below 2^32 (RFC 4251 section 5)
 abbrev pub Uint32Text : ℕ → List ℕ → Type 0
 Uint32Text n text = (n < 2 ^ 32) × (text ≡ uint32 n)
 
@@ -31,6 +32,7 @@ Uint32Text n text = (n < 2 ^ 32) × (text ≡ uint32 n)
 abbrev pub string : List ℕ → List ℕ
 string bytes = uint32 (length bytes) ++ bytes
 
+-- the text is the string of these bytes, which are fewer than 2^32 (RFC 4251 section 5)
 abbrev pub StringText : List ℕ → List ℕ → Type 0
 StringText bytes text = (length bytes < 2 ^ 32) × (text ≡ string bytes)
 
@@ -66,6 +68,7 @@ pub record IsName (name : List ℕ) : Type 0 where
   pub short : length name ≤ NAME_LIMIT
   pub bytes : AllByRecursion IsNameByte name
 
+-- each of these is a name (RFC 4251 section 6); that it is so in every list is profile
 abbrev pub AreNames : List (List ℕ) → Type 0
 AreNames names = AllByRecursion IsName names
 
@@ -77,5 +80,6 @@ names_body names = join_with_byte 44 names
 abbrev pub name_list : List (List ℕ) → List ℕ
 name_list names = string (names_body names)
 
+-- the text is the name-list of these names (RFC 4251 section 5)
 abbrev pub NameListText : List (List ℕ) → List ℕ → Type 0
 NameListText names text = AreNames names × StringText (names_body names) text

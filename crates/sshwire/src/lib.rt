@@ -18,6 +18,7 @@ mod line_reader;
 mod mpint;
 mod name_list;
 mod names;
+pub mod owned;
 mod peer_line_reader;
 mod peer_version;
 mod put;

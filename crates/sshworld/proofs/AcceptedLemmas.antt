@@ -40,7 +40,7 @@ use Rattle.sshworld.specs.Held.{IsHeld, held_method}
 use Rattle.sshworld.specs.Judging.{is_proved}
 use Rattle.sshworld.specs.Offered.{offered}
 use Rattle.sshworld.specs.Placed.{BothInPlace, HaveSameKeys, sent_by_client, sent_by_server}
-use Rattle.sshworld.specs.Understood.{AreUnderstood, CanSign}
+use Rattle.sshworld.specs.Compatible.{AreCompatible, CanSign}
 use Rattle.sshworld.specs.Wordings.{answer_by, signature_of_server, wording_of}
 use Rattle.sshworld.proofs.BothFollowLemmas.{both_follow}
 use Rattle.sshworld.proofs.KeysLemmas.{same_keys}
@@ -167,14 +167,14 @@ module _ (m : SuiteData) (law : IsLawful m) (below : Below m) (c : ClientData) (
   banner_short : (text : List ℕ) → s.banner ≡ Some text → length text ≤ 8192
   banner_short text has = subst (λ (b : Option (List ℕ)). IfSome b (λ text. length text ≤ 8192)) has (server.keeps fault.Blob).1
 
-  pub reads_all : (d : DecisionsData) → AreUnderstood m d c s → (a : AlgorithmsData) → choice m (client_offer c) (server_offer s) ≡ Ok a → IsRead m d c s a
-  reads_all d understood a chosen =
+  pub reads_all : (d : DecisionsData) → AreCompatible m d c s → (a : AlgorithmsData) → choice m (client_offer c) (server_offer s) ≡ Ok a → IsRead m d c s a
+  reads_all d compatible a chosen =
       let name : IsName a.host_key = well m (client_offer c) (server_offer s) a (choice_sound m (client_offer c) (server_offer s) a chosen) field.HostKey (below.client_written c client).server_host_key_algorithms.each in
       record {
         init = below.again (m.share_form a.kex) (init_in (m.share_form a.kex) (m.share a.kex c.side.random)) (init_of_form (m.share_form a.kex) (m.share a.kex c.side.random)) (init_well (m.share_form a.kex) (m.share a.kex c.side.random) (client_share a.kex));
         reply = below.again (m.share_form a.kex) (reply_in (m.share_form a.kex) (host_key_of_server m s a.host_key) (answer_of_server m c s a.kex).share (signature_of_server m c s a))
             (reply_of_form (m.share_form a.kex) (host_key_of_server m s a.host_key) (answer_of_server m c s a.kex).share (signature_of_server m c s a))
-            (reply_well (m.share_form a.kex) (host_key_of_server m s a.host_key) (answer_of_server m c s a.kex).share (signature_of_server m c s a) (server_share a.kex (understood.exchange a chosen))
+            (reply_well (m.share_form a.kex) (host_key_of_server m s a.host_key) (answer_of_server m c s a.kex).share (signature_of_server m c s a) (server_share a.kex (compatible.exchange a chosen))
             (law.blob_high a.host_key (secret_of s.host_keys a.host_key) name) (law.sign_high a.host_key (secret_of s.host_keys a.host_key) (session_between m c s a) name));
         banner = λ text has form. below.again form (UserauthBanner text []) tt (omega (arith, banner_short text has), (omega arith, tt));
         answers = λ i r e form. answer_read form r.proving (is_proved m d s (length (take i (offered m d s c.plan)) + 1) r) (named_at i r e).1;
@@ -224,8 +224,8 @@ held_each : (m : SuiteData) → IsAgreeing m → (plan : List AttemptData) → A
 held_each m agrees [] = tt
 held_each m agrees (a ∷ later) = (held_by m agrees a.proving, held_each m agrees later)
 
-pub understood_by : (m : SuiteData) (d : DecisionsData) (c : ClientData) (s : ServerData) → IsAgreeing m → IsClient c → IsServer s → AreUnderstood m d c s
-understood_by m d c s agrees client server = record {
+pub compatible_by : (m : SuiteData) (d : DecisionsData) (c : ClientData) (s : ServerData) → IsAgreeing m → IsClient c → IsServer s → AreCompatible m d c s
+compatible_by m d c s agrees client server = record {
   exchange = λ a chosen. agrees.agreed a.kex c.side.random s.side.random (client.keeps fault.Random).random (server.keeps fault.Random).random client.bytes.random server.bytes.random;
   host_key = λ a chosen trusted. agrees.signed a.host_key (secret_of s.host_keys a.host_key);
   plan = can_sign_each m agrees c.plan;
@@ -233,16 +233,16 @@ understood_by m d c s agrees client server = record {
   plan_held = held_each m agrees c.plan;
 }
 
-pub accepted_follow : (m : SuiteData) → IsLawful m → Below m → (d : DecisionsData) (c : ClientData) (s : ServerData) → AreUnderstood m d c s → IsClient c → IsServer s → BothFollow m d c s (wording_of m d c s)
-accepted_follow m law below d c s understood client server =
-    both_follow m d c s understood (sound m law below c s client server) (offers_read m law below c s client server) (reads_all m law below c s client server d understood)
+pub accepted_follow : (m : SuiteData) → IsLawful m → Below m → (d : DecisionsData) (c : ClientData) (s : ServerData) → AreCompatible m d c s → IsClient c → IsServer s → BothFollow m d c s (wording_of m d c s)
+accepted_follow m law below d c s compatible client server =
+    both_follow m d c s compatible (sound m law below c s client server) (offers_read m law below c s client server) (reads_all m law below c s client server d compatible)
 
-pub accepted_placed : (m : SuiteData) → IsLawful m → Below m → (d : DecisionsData) (c : ClientData) (s : ServerData) → AreUnderstood m d c s → IsClient c → IsServer s → BothInPlace m d c s
-accepted_placed m law below d c s understood client server =
-    both_placed m d c s understood (sound m law below c s client server) (offers_read m law below c s client server) (reads_all m law below c s client server d understood)
+pub accepted_placed : (m : SuiteData) → IsLawful m → Below m → (d : DecisionsData) (c : ClientData) (s : ServerData) → AreCompatible m d c s → IsClient c → IsServer s → BothInPlace m d c s
+accepted_placed m law below d c s compatible client server =
+    both_placed m d c s compatible (sound m law below c s client server) (offers_read m law below c s client server) (reads_all m law below c s client server d compatible)
 
-pub accepted_same_keys : (m : SuiteData) → IsLawful m → Below m → (d : DecisionsData) (c : ClientData) (s : ServerData) → AreUnderstood m d c s → IsClient c → IsServer s
+pub accepted_same_keys : (m : SuiteData) → IsLawful m → Below m → (d : DecisionsData) (c : ClientData) (s : ServerData) → AreCompatible m d c s → IsClient c → IsServer s
     → (switched_out (sent_by_client m d c s) ≡ true) ⊎ (switched_out (sent_by_server m d c s) ≡ true)
     → HaveSameKeys m Client Server (config_of_client c) (config_of_server s) (sent_by_client m d c s) (sent_by_server m d c s)
-accepted_same_keys m law below d c s understood client server =
-    same_keys m d c s understood (sound m law below c s client server) (offers_read m law below c s client server) (reads_all m law below c s client server d understood)
+accepted_same_keys m law below d c s compatible client server =
+    same_keys m d c s compatible (sound m law below c s client server) (offers_read m law below c s client server) (reads_all m law below c s client server d compatible)

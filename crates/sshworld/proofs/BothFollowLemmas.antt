@@ -17,7 +17,7 @@ use Rattle.sshworld.specs.Course.{NoTrust, Requests, Way, client_part, server_pa
 use Rattle.sshworld.specs.Follows.{BothFollow, FollowsPart, units_of}
 use Rattle.sshworld.specs.Guesses.{guess_of}
 use Rattle.sshworld.specs.Outcome.{Case, HostKeyRefused, NothingCommon, case_of_choice, case_of_how, ends_of_case, outcome}
-use Rattle.sshworld.specs.Understood.{AreUnderstood}
+use Rattle.sshworld.specs.Compatible.{AreCompatible}
 use Rattle.sshworld.specs.Verdicts.{How, verdict}
 use Rattle.sshworld.specs.Wordings.{method_used, wording_of, wording_with}
 use Rattle.sshworld.proofs.ClientFollows.{client_asked_follows, client_refused_follows, client_without_follows}
@@ -25,7 +25,7 @@ use Rattle.sshworld.proofs.Readable.{AreOffersRead, AreSound, IsRead}
 use Rattle.sshworld.proofs.ServerFollows.{server_asked_follows, server_refused_follows, server_without_follows}
 use Rattle.sshworld.proofs.StepLemmas.{right_sound}
 
-module _ (m : SuiteData) (d : DecisionsData) (c : ClientData) (s : ServerData) (understood : AreUnderstood m d c s) (sound : AreSound c s) (offers : AreOffersRead c s)
+module _ (m : SuiteData) (d : DecisionsData) (c : ClientData) (s : ServerData) (compatible : AreCompatible m d c s) (sound : AreSound c s) (offers : AreOffersRead c s)
     (readable : (a : AlgorithmsData) → choice m (client_offer c) (server_offer s) ≡ Ok a → IsRead m d c s a) where
   -- with this choice
   record With (r : Result AlgorithmsData NoCommon) : Type 0 where
@@ -52,26 +52,26 @@ module _ (m : SuiteData) (d : DecisionsData) (c : ClientData) (s : ServerData) (
 
   trusted_by : (a : AlgorithmsData) → choice m (client_offer c) (server_offer s) ≡ Ok a → (b : Bool) → d.host_key a.host_key (host_key_of_server m s a.host_key) ≡ b → Trusted a b
   trusted_by a chosen true e = record {
-    client = client_asked_follows m d c s understood sound offers a chosen (readable a chosen) (right a chosen) e (ends_of_case (case_of_how m c s a (verdict m d c s).how)).client
+    client = client_asked_follows m d c s compatible sound offers a chosen (readable a chosen) (right a chosen) e (ends_of_case (case_of_how m c s a (verdict m d c s).how)).client
         (λ how is. ap (λ (h : How). (ends_of_case (case_of_how m c s a h)).client) is) (ends_of_case (case_of_how m c s a (verdict m d c s).how)).server;
-    server = server_asked_follows m d c s understood sound offers a chosen (readable a chosen) (ends_of_case (case_of_how m c s a (verdict m d c s).how)).server (ends_of_case (case_of_how m c s a (verdict m d c s).how)).client
+    server = server_asked_follows m d c s compatible sound offers a chosen (readable a chosen) (ends_of_case (case_of_how m c s a (verdict m d c s).how)).server (ends_of_case (case_of_how m c s a (verdict m d c s).how)).client
         (λ how is. ap (λ (h : How). (ends_of_case (case_of_how m c s a h)).server) is);
   }
   trusted_by a chosen false e = record {
-    client = client_refused_follows m d c s understood sound offers a chosen (readable a chosen) (right a chosen) (ends_of_case HostKeyRefused).client (ends_of_case HostKeyRefused).server e refl;
-    server = server_refused_follows m d c s understood sound offers a chosen (readable a chosen) (ends_of_case HostKeyRefused).server (ends_of_case HostKeyRefused).client refl;
+    client = client_refused_follows m d c s compatible sound offers a chosen (readable a chosen) (right a chosen) (ends_of_case HostKeyRefused).client (ends_of_case HostKeyRefused).server e refl;
+    server = server_refused_follows m d c s compatible sound offers a chosen (readable a chosen) (ends_of_case HostKeyRefused).server (ends_of_case HostKeyRefused).client refl;
   }
 
   with_choice : (r : Result AlgorithmsData NoCommon) → choice m (client_offer c) (server_offer s) ≡ r → With r
   with_choice (Ok a) e = let t = trusted_by a e (d.host_key a.host_key (host_key_of_server m s a.host_key)) refl in record { client = t.client; server = t.server }
   with_choice (Err f) e = record {
-    client = client_without_follows m d c s understood sound offers (guessed_method (config_of_client c)) (chosen_or (Err f)) f (ends_of_case (NothingCommon f)).client (ends_of_case (NothingCommon f)).server (λ r. refl) e refl;
-    server = server_without_follows m d c s understood sound offers (guessed_method (config_of_client c)) (chosen_or (Err f)) f (guess_of c s) (ends_of_case (NothingCommon f)).server (ends_of_case (NothingCommon f)).client e refl;
+    client = client_without_follows m d c s compatible sound offers (guessed_method (config_of_client c)) (chosen_or (Err f)) f (ends_of_case (NothingCommon f)).client (ends_of_case (NothingCommon f)).server (λ r. refl) e refl;
+    server = server_without_follows m d c s compatible sound offers (guessed_method (config_of_client c)) (chosen_or (Err f)) f (guess_of c s) (ends_of_case (NothingCommon f)).server (ends_of_case (NothingCommon f)).client e refl;
   }
 
-pub both_follow : (m : SuiteData) (d : DecisionsData) (c : ClientData) (s : ServerData) → AreUnderstood m d c s → AreSound c s → AreOffersRead c s
+pub both_follow : (m : SuiteData) (d : DecisionsData) (c : ClientData) (s : ServerData) → AreCompatible m d c s → AreSound c s → AreOffersRead c s
     → ((a : AlgorithmsData) → choice m (client_offer c) (server_offer s) ≡ Ok a → IsRead m d c s a) → BothFollow m d c s (wording_of m d c s)
 unfolding outcome
-both_follow m d c s understood sound offers readable =
-    let w = with_choice m d c s understood sound offers readable (choice m (client_offer c) (server_offer s)) refl in
+both_follow m d c s compatible sound offers readable =
+    let w = with_choice m d c s compatible sound offers readable (choice m (client_offer c) (server_offer s)) refl in
     record { client_follows = w.client; server_follows = w.server }

@@ -12,7 +12,7 @@ use Rattle.sshpacket.specs.Places.{EachPlace, IsPrefix}
 use Rattle.sshpacket.specs.Stream.{Units}
 use Rattle.sshpacket.specs.Suite.{SuiteData}
 use Rattle.sshcore.specs.declared.end.Fault.TheVariants as fault
-use Rattle.sshcore.specs.declared.table.Phase.TheVariants as phase
+use Rattle.sshcore.specs.declared.phase_table.Phase.TheVariants as phase
 use Rattle.sshcore.specs.Attempts.{attempt_reply}
 use Rattle.sshcore.specs.ConfigParts.{AttemptData, ClientData, ServerData, client_offer, server_offer, version_of}
 use Rattle.sshcore.specs.EndData.{EndData, Failed, goes}
@@ -26,7 +26,7 @@ use Rattle.sshworld.specs.Guesses.{Guess, NoGuess, RightGuess, WrongGuess, guess
 use Rattle.sshworld.specs.Held.{held_request}
 use Rattle.sshworld.specs.Offered.{offered}
 use Rattle.sshworld.specs.Outcome.{case_of_how, ends_of_case}
-use Rattle.sshworld.specs.Understood.{AreUnderstood}
+use Rattle.sshworld.specs.Compatible.{AreCompatible}
 use Rattle.sshworld.specs.Verdicts.{Exhausted, How, Verdict, verdict}
 use Rattle.sshworld.specs.Wording.{Wording}
 use Rattle.sshworld.specs.Wordings.{request_or, wording_with}
@@ -50,7 +50,7 @@ asked_same w false r = refl
 asked_same w true true = refl
 asked_same w true false = refl
 
-module _ (m : SuiteData) (d : DecisionsData) (c : ClientData) (s : ServerData) (understood : AreUnderstood m d c s) (sound : AreSound c s) (offers : AreOffersRead c s) where
+module _ (m : SuiteData) (d : DecisionsData) (c : ClientData) (s : ServerData) (compatible : AreCompatible m d c s) (sound : AreSound c s) (offers : AreOffersRead c s) where
   -- KEXINIT, and the guess
   pub makes : (kex : List ℕ) (b : AlgorithmsData) (g r : Bool) → (r ≡ true → kex ≡ guessed_method (config_of_client c))
       → cond g (init_for m (config_of_client c) (guessed_method (config_of_client c)) ∷ []) [] ≡ guessed (wording_with m d c s kex b) (guess_by g r)
@@ -77,7 +77,7 @@ module _ (m : SuiteData) (d : DecisionsData) (c : ClientData) (s : ServerData) (
               as_open (client_setup m d c) (client_no_choice u guess end) [] (version_of s.side) [] refl refl (omega arith),
               (
                 as_last (client_setup m d c) (client_no_choice u guess end) (version_of s.side ∷ []) u.server_offer (u.disconnect 3 ∷ []) (Failed (fault.NoCommon f))
-                    (client_first m d c s understood sound offers ∙ ap (λ r. chosen_reply m Client (config_of_client c) (server_offer s) r) chosen) refl refl final,
+                    (client_first m d c s compatible sound offers ∙ ap (λ r. chosen_reply m Client (config_of_client c) (server_offer s) r) chosen) refl refl final,
                 tt,
               ),
             );
@@ -105,10 +105,10 @@ module _ (m : SuiteData) (d : DecisionsData) (c : ClientData) (s : ServerData) (
           refl (front guess) (
             as_open (client_setup m d c) (client_no_trust w guess end) [] (version_of s.side) [] refl refl (omega arith),
             (
-              as_open (client_setup m d c) (client_no_trust w guess end) (version_of s.side ∷ []) w.server_offer (init_anew w guess) (client_first m d c s understood sound offers ∙ opens) refl (omega arith),
+              as_open (client_setup m d c) (client_no_trust w guess end) (version_of s.side ∷ []) w.server_offer (init_anew w guess) (client_first m d c s compatible sound offers ∙ opens) refl (omega arith),
               (
                 as_last (client_setup m d c) (client_no_trust w guess end) (version_of s.side ∷ w.server_offer ∷ []) w.reply (w.disconnect 9 ∷ []) (Failed fault.HostKey)
-                    (client_refuses m d c s understood sound offers a chosen readable refused) refl refl final,
+                    (client_refuses m d c s compatible sound offers a chosen readable refused) refl refl final,
                 tt,
               ),
             ),
@@ -131,8 +131,8 @@ module _ (m : SuiteData) (d : DecisionsData) (c : ClientData) (s : ServerData) (
       abbrev pre : Units
       pre = w.server_offer ∷ w.reply ∷ w.new_keys ∷ []
 
-      switched_view : Sits (client_setup m d c) (version_of s.side) pre phase.Service false (client_view m d c s understood sound offers a chosen readable (session_between m c s a) c.plan)
-      switched_view = switches (client_setup m d c) (version_of s.side) (w.server_offer ∷ w.reply ∷ []) _ (client_exchanges m d c s understood sound offers a chosen readable)
+      switched_view : Sits (client_setup m d c) (version_of s.side) pre phase.Service false (client_view m d c s compatible sound offers a chosen readable (session_between m c s a) c.plan)
+      switched_view = switches (client_setup m d c) (version_of s.side) (w.server_offer ∷ w.reply ∷ []) _ (client_exchanges m d c s compatible sound offers a chosen readable)
 
       -- up to NEWKEYS
       early : (rest : Units) → EachPlace Q (version_of s.side ∷ pre) rest → EachPlace Q [] (version_of s.side ∷ w.server_offer ∷ w.reply ∷ w.new_keys ∷ rest)
@@ -140,12 +140,12 @@ module _ (m : SuiteData) (d : DecisionsData) (c : ClientData) (s : ServerData) (
           let five = receives_some w v.requests in (
             as_open (client_setup m d c) p [] (version_of s.side) [] refl refl (omega (arith, five)),
             (
-              as_open (client_setup m d c) p (version_of s.side ∷ []) w.server_offer (init_anew w guess) (client_first m d c s understood sound offers ∙ opens) refl (omega (arith, five)),
+              as_open (client_setup m d c) p (version_of s.side ∷ []) w.server_offer (init_anew w guess) (client_first m d c s compatible sound offers ∙ opens) refl (omega (arith, five)),
               (
-                as_open (client_setup m d c) p (version_of s.side ∷ w.server_offer ∷ []) w.reply (w.new_keys ∷ w.service_request ∷ []) (client_trusts m d c s understood sound offers a chosen readable trusted) refl (omega (arith, five)),
+                as_open (client_setup m d c) p (version_of s.side ∷ w.server_offer ∷ []) w.reply (w.new_keys ∷ w.service_request ∷ []) (client_trusts m d c s compatible sound offers a chosen readable trusted) refl (omega (arith, five)),
                 (
                   as_open (client_setup m d c) p (version_of s.side ∷ w.server_offer ∷ w.reply ∷ []) w.new_keys []
-                      (switched (client_setup m d c) (version_of s.side) (w.server_offer ∷ w.reply ∷ []) _ (client_exchanges m d c s understood sound offers a chosen readable)) refl (omega (arith, five)),
+                      (switched (client_setup m d c) (version_of s.side) (w.server_offer ∷ w.reply ∷ []) _ (client_exchanges m d c s compatible sound offers a chosen readable)) refl (omega (arith, five)),
                   later,
                 ),
               ),
@@ -161,7 +161,7 @@ module _ (m : SuiteData) (d : DecisionsData) (c : ClientData) (s : ServerData) (
           let made = counted_offered m d c s in
           let empty : c.plan ≡ [] = left_none m d s (offered m d s c.plan) c.plan 0 rest_is (omega (arith, made.none_offered none)) in (
             as_last (client_setup m d c) p (version_of s.side ∷ pre) w.service_accept (w.disconnect 14 ∷ []) (Failed fault.NoMoreMethods)
-                ((client_accepted m d c s understood sound offers a chosen readable pre (session_between m c s a) c.plan switched_view).0 ∙ ap (λ (l : List AttemptData). attempt_reply m d (session_between m c s a) l) empty)
+                ((client_accepted m d c s compatible sound offers a chosen readable pre (session_between m c s a) c.plan switched_view).0 ∙ ap (λ (l : List AttemptData). attempt_reply m d (session_between m c s a) l) empty)
                 (next_last w v 0 (sym none) ∙ ap (λ h. client_last w h) (made.none_left none)) (ap (λ (n : ℕ). client_receives w n) (sym none)) (final Exhausted (made.none_left none)),
             tt,
           )
@@ -174,25 +174,25 @@ module _ (m : SuiteData) (d : DecisionsData) (c : ClientData) (s : ServerData) (
           let l = left_some m d s (offered m d s c.plan) c.plan 0 x.0 rest_is x.1 in
           let one : client_next w v 0 ≡ held_request m (session_between m c s a) x.0 ∷ [] = next_in w v 0 more ∙ ap (λ (o : Option AttemptData). request_or m (session_between m c s a) o ∷ []) x.1 in
           let n = receives_many w v.requests more in
-          let accepted = client_accepted m d c s understood sound offers a chosen readable pre (session_between m c s a) c.plan switched_view in (
+          let accepted = client_accepted m d c s compatible sound offers a chosen readable pre (session_between m c s a) c.plan switched_view in (
             as_open (client_setup m d c) p (version_of s.side ∷ pre) w.service_accept (held_request m (session_between m c s a) x.0 ∷ [])
-                (accepted.0 ∙ attempt_held m d (session_between m c s a) c.plan x.0 l.0 l.1 (held_at m d c s understood 0 x.0 x.1)) one (omega (arith, more, n)),
+                (accepted.0 ∙ attempt_held m d (session_between m c s a) c.plan x.0 l.0 l.1 (held_at m d c s compatible 0 x.0 x.1)) one (omega (arith, more, n)),
             greeted s.banner refl made.most more accepted.1,
           )
         where
           greeted : (b : Option (List ℕ)) → s.banner ≡ b → v.requests ≤ length (offered m d s c.plan) → 0 < v.requests
-              → Sits (client_setup m d c) (version_of s.side) (pre ++ w.service_accept ∷ []) phase.Auth false (client_view m d c s understood sound offers a chosen readable (session_between m c s a) c.plan)
+              → Sits (client_setup m d c) (version_of s.side) (pre ++ w.service_accept ∷ []) phase.Auth false (client_view m d c s compatible sound offers a chosen readable (session_between m c s a) c.plan)
               → EachPlace Q (version_of s.side ∷ (pre ++ w.service_accept ∷ [])) (banner_by b ++ from (server_next w v) 0 v.requests)
           greeted None has most more here =
               let none : length w.banner ≡ 0 = ap (λ t. length (banner_by t)) has in
-              client_loop m d c s understood sound offers a chosen readable guess end final v.requests 0 (omega arith) most (pre ++ w.service_accept ∷ []) c.plan here rest_is (omega (arith, none))
+              client_loop m d c s compatible sound offers a chosen readable guess end final v.requests 0 (omega arith) most (pre ++ w.service_accept ∷ []) c.plan here rest_is (omega (arith, none))
           greeted (Some text) has most more here =
               let one : length w.banner ≡ 1 = ap (λ t. length (banner_by t)) has in
               let n = receives_many w v.requests more in
-              let sent = client_greeted m d c s understood sound offers a chosen readable (pre ++ w.service_accept ∷ []) (session_between m c s a) text c.plan has here in (
+              let sent = client_greeted m d c s compatible sound offers a chosen readable (pre ++ w.service_accept ∷ []) (session_between m c s a) text c.plan has here in (
                 as_open (client_setup m d c) p (version_of s.side ∷ (pre ++ w.service_accept ∷ [])) (written_message (UserauthBanner text [])) [] sent.0
                     (ap (λ t. group_at (client_early (record w { banner = banner_by t }) guess v) (λ i. client_next w v (i + 1)) 5) has) (omega (arith, more, n, one)),
-                client_loop m d c s understood sound offers a chosen readable guess end final v.requests 0 (omega arith) most ((pre ++ w.service_accept ∷ []) ++ written_message (UserauthBanner text []) ∷ []) c.plan sent.1 rest_is (omega (arith, one)),
+                client_loop m d c s compatible sound offers a chosen readable guess end final v.requests 0 (omega arith) most ((pre ++ w.service_accept ∷ []) ++ written_message (UserauthBanner text []) ∷ []) c.plan sent.1 rest_is (omega (arith, one)),
               )
 
       pub client_asked_follows : (server_end : EndData) → FollowsPart (client_setup m d c) p (units_of (config_of_server s) (server_requests w guess v server_end))

@@ -8,7 +8,7 @@ use Rattle.sshneg.specs.Fields.{AlgorithmsData}
 use Rattle.sshpacket.specs.Places.{EachPlace}
 use Rattle.sshpacket.specs.Stream.{Units}
 use Rattle.sshpacket.specs.Suite.{SuiteData}
-use Rattle.sshcore.specs.declared.table.Phase.TheVariants as phase
+use Rattle.sshcore.specs.declared.phase_table.Phase.TheVariants as phase
 use Rattle.sshcore.specs.Attempts.{attempt_reply}
 use Rattle.sshcore.specs.ConfigParts.{AttemptData, ByKey, ByNothing, ByPassword, ClientData, CredentialData, ServerData, client_offer, server_offer, version_of}
 use Rattle.sshcore.specs.EndData.{Authenticated, EndData}
@@ -24,7 +24,7 @@ use Rattle.sshworld.specs.Held.{IsHeld, held_request}
 use Rattle.sshworld.specs.Judging.{is_proved}
 use Rattle.sshworld.specs.Offered.{is_confirmed, offered}
 use Rattle.sshworld.specs.Outcome.{case_of_how, ends_of_case}
-use Rattle.sshworld.specs.Understood.{AreUnderstood}
+use Rattle.sshworld.specs.Compatible.{AreCompatible}
 use Rattle.sshworld.specs.Verdicts.{Exhausted, How, Limit, Success, Unknown, Verdict, ends_by, verdict}
 use Rattle.sshworld.specs.Wording.{Wording}
 use Rattle.sshworld.specs.Wordings.{answer_or, answer_to, request_or, wording_with}
@@ -42,10 +42,10 @@ receives_many w zero h = absurd (omega (arith, h))
 receives_many w (suc n) h = refl
 
 -- the suite holds the key of each request
-pub held_at : (m : SuiteData) (d : DecisionsData) (c : ClientData) (s : ServerData) → AreUnderstood m d c s → (j : ℕ) (x : AttemptData) → slice_get (offered m d s c.plan) j ≡ Some x → IsHeld m x.proving
-held_at m d c s understood j x at = offered_each m d s (λ (r : AttemptData). IsHeld m r.proving) (held_itself m) c.plan understood.plan_held j x at
+pub held_at : (m : SuiteData) (d : DecisionsData) (c : ClientData) (s : ServerData) → AreCompatible m d c s → (j : ℕ) (x : AttemptData) → slice_get (offered m d s c.plan) j ≡ Some x → IsHeld m x.proving
+held_at m d c s compatible j x at = offered_each m d s (λ (r : AttemptData). IsHeld m r.proving) (held_itself m) c.plan compatible.plan_held j x at
 
-module _ (m : SuiteData) (d : DecisionsData) (c : ClientData) (s : ServerData) (understood : AreUnderstood m d c s) (sound : AreSound c s) (offers : AreOffersRead c s)
+module _ (m : SuiteData) (d : DecisionsData) (c : ClientData) (s : ServerData) (compatible : AreCompatible m d c s) (sound : AreSound c s) (offers : AreOffersRead c s)
     (a : AlgorithmsData) (chosen : choice m (client_offer c) (server_offer s) ≡ Ok a) (readable : IsRead m d c s a) (guess : Guess) (end : EndData)
     (final : (how : How) → (verdict m d c s).how ≡ how → end ≡ (ends_of_case (case_of_how m c s a how)).client) where
   abbrev w : Wording
@@ -61,7 +61,7 @@ module _ (m : SuiteData) (d : DecisionsData) (c : ClientData) (s : ServerData) (
   Q = IsAsPart (client_setup m d c) p
 
   abbrev sits : Units → List AttemptData → Type 0
-  sits before left = Sits (client_setup m d c) (version_of s.side) before phase.Auth false (client_view m d c s understood sound offers a chosen readable (session_between m c s a) left)
+  sits before left = Sits (client_setup m d c) (version_of s.side) before phase.Auth false (client_view m d c s compatible sound offers a chosen readable (session_between m c s a) left)
 
   abbrev is_left : List AttemptData → ℕ → Type 0
   is_left left j = IsLeft m d s (offered m d s c.plan) left j
@@ -83,7 +83,7 @@ module _ (m : SuiteData) (d : DecisionsData) (c : ClientData) (s : ServerData) (
     by_failure : (x : AttemptData) (later : List AttemptData) (partial : Bool) → ReadsAgain (UserauthFailure s.methods partial) → sits before (x ∷ later) → is_left (x ∷ later) j
         → slice_get (offered m d s c.plan) j ≡ Some x → is_confirmed m d s made x ≡ false → Answered before j (written_message (UserauthFailure s.methods partial))
     by_failure x later partial read here rest at none =
-        let f = client_failed m d c s understood sound offers a chosen readable partial read before (session_between m c s a) (x ∷ later) here in
+        let f = client_failed m d c s compatible sound offers a chosen readable partial read before (session_between m c s a) (x ∷ later) here in
         record { left = next_after s.methods (x ∷ later); reply = f.0; here = f.1; rest = left_refused m d s (offered m d s c.plan) j x later rest at none }
 
     by_proving : (user service : List ℕ) (p : CredentialData) (later : List AttemptData) → sits before (record { user = user; service = service; proving = p } ∷ later)
@@ -109,7 +109,7 @@ module _ (m : SuiteData) (d : DecisionsData) (c : ClientData) (s : ServerData) (
         by : (b : Bool) → is_proved m d s (length made + 1) x ≡ b → Answered before j (written_message (told (is_proved m d s (length made + 1) x)))
         by true e =
             let is : told (is_proved m d s (length made + 1) x) ≡ UserauthPkOk algorithm (m.blob algorithm secret) = ap told e in
-            let f = client_confirmed m d c s understood sound offers a chosen readable user service algorithm secret later (subst ReadsAgain is (readable.answers j x at)) before (session_between m c s a) here in
+            let f = client_confirmed m d c s compatible sound offers a chosen readable user service algorithm secret later (subst ReadsAgain is (readable.answers j x at)) before (session_between m c s a) here in
             subst (λ (y : MessageData). Answered before j (written_message y)) (sym is)
             (record { left = confirmed (x ∷ later); reply = f.0; here = f.1; rest = left_confirmed m d s (offered m d s c.plan) j x later rest at e })
         by false e =
@@ -146,7 +146,7 @@ module _ (m : SuiteData) (d : DecisionsData) (c : ClientData) (s : ServerData) (
       let same : q ≡ x.0 = success_is j q x.0 is (b.last (omega (arith, all))) in
       let strict = client_strict c s sound in (
         as_last (client_setup m d c) p (version_of s.side ∷ before) w.success [] (Authenticated (agreed m c s a q))
-            (client_succeeds m d c s understood sound offers a chosen readable before (session_between m c s a) x.0 l.0 (subst (λ (y : List AttemptData). sits before y) l.1 here)
+            (client_succeeds m d c s compatible sound offers a chosen readable before (session_between m c s a) x.0 l.0 (subst (λ (y : List AttemptData). sits before y) l.1 here)
             ∙ ap (λ (b : Bool). record { answers = []; end = Authenticated (record { algorithms = a; strict = b; session = session_between m c s a; user = x.0.user; service = x.0.service }) }) strict
             ∙ ap (λ (y : AttemptData). record { answers = []; end = Authenticated (agreed m c s a y) }) (sym same))
             (group_is before j at ∙ next_last w v (j + 1) all ∙ ap (λ h. client_last w h) is)
@@ -187,7 +187,7 @@ module _ (m : SuiteData) (d : DecisionsData) (c : ClientData) (s : ServerData) (
       let one : client_next w v (j + 1) ≡ held_request m (session_between m c s a) x.0 ∷ [] = next_in w v (j + 1) more ∙ ap (λ (o : Option AttemptData). request_or m (session_between m c s a) o ∷ []) x.1 in
       subst (λ (g : Units). EachPlace Q (version_of s.side ∷ before) (g ++ from (server_next w v) (suc j) (suc r))) (sym (answer_in w v j more)) (
         as_open (client_setup m d c) p (version_of s.side ∷ before) (w.refusal j) (held_request m (session_between m c s a) x.0 ∷ [])
-            (f.reply ∙ attempt_held m d (session_between m c s a) f.left x.0 l.0 l.1 (held_at m d c s understood (j + 1) x.0 x.1)) (group_is before j at ∙ one)
+            (f.reply ∙ attempt_held m d (session_between m c s a) f.left x.0 l.0 l.1 (held_at m d c s compatible (j + 1) x.0 x.1)) (group_is before j at ∙ one)
             (let n = receives_many w v.requests (omega (arith, more)) in omega (arith, at, more, n)),
         client_loop (suc r) (suc j) (omega (arith, sum)) most (before ++ w.refusal j ∷ []) f.left f.here
             (subst (λ (n : ℕ). is_left f.left n) (let e : j + 1 ≡ suc j = omega arith in e) f.rest)

@@ -22,7 +22,7 @@ use Rattle.sshcore.specs.Exchange.{exchange_at, keys_at}
 use Rattle.sshcore.specs.History.{History, IsReady}
 use Rattle.sshcore.specs.EndpointParts.{DecisionsData, client_setup, config_of_client, config_of_server, server_setup}
 use Rattle.sshcore.specs.Sessions.{IsSession}
-use Rattle.sshcore.proofs.Below.{Below}
+use Rattle.sshcore.proofs.LawsBelow.{Below}
 use Rattle.sshworld.specs.CourseReceived.{BothReceive, client_partner, server_partner}
 use Rattle.sshworld.specs.Course.{way_of}
 use Rattle.sshworld.specs.Follows.{IsInPart}
@@ -63,57 +63,57 @@ same_direction x y keys number =
 module _ (laws : Laws) (m : SuiteData) (d : DecisionsData) (lawful : IsLawful m) (own their : Partner) (receives : ReceivesCourse m d own their)
     (units answers : Units) (sizes rest h s : List ℕ) (end : EndData) (b : History (partner_setup m d their) units sizes rest None answers end h s)
     (f : IsPrefix units (stream_of own)) (is : IsInPart their.part units answers end) where
-  speaks : SpeaksInCourse their.role own.party their.party (payloads_of own) (payloads_of their) units answers
-  speaks = speaks_by m d their.role own.party their.party (payloads_of own) (payloads_of their) units answers sizes rest h s None end b f (sent_within their units answers end is)
+  speaks : SpeaksInCourse their.role own.config their.config (payloads_of own) (payloads_of their) units answers
+  speaks = speaks_by m d their.role own.config their.config (payloads_of own) (payloads_of their) units answers sizes rest h s None end b f (sent_within their units answers end is)
 
-  pub all_bytes : (us : Units) (ns left received : List ℕ) (refusal : Option Refusal) → Received (parsers m own.role own.party) received us ns left refusal → IsPrefix received s → us ≡ their.party.version ∷ answers → received ≡ s
+  pub all_bytes : (us : Units) (ns left received : List ℕ) (refusal : Option Refusal) → Received (parsers m own.role own.config) received us ns left refusal → IsPrefix received s → us ≡ their.config.version ∷ answers → received ≡ s
   all_bytes us ns left received refusal a to_own all =
-      let sent : Units = their.party.version ∷ answers in
-      let reads = parsers m own.role own.party in
-      let writes = spells m their.role their.party units in
-      let spelled : EachPlace (Spelled (parsers m own.role own.party) (spells m their.role their.party units)) [] (their.party.version ∷ answers) =
-      all_spelled m own.role their.role own.party their.party (payloads_of own) (payloads_of their) receives.received units answers speaks laws lawful in
-      let read : Read (parsers m own.role own.party) [] [] s (their.party.version ∷ answers) ns (left ++ to_own.rest) =
-      subst (λ (l : Units). Read (parsers m own.role own.party) [] [] s l ns (left ++ to_own.rest)) all
-      (subst (λ (t : List ℕ). Read (parsers m own.role own.party) [] [] t us ns (left ++ to_own.rest)) (sym to_own.whole_is)
-      (read_more (parsers m own.role own.party) (laws.parsers m own.role own.party) [] [] received to_own.rest us ns left a.read)) in
+      let sent : Units = their.config.version ∷ answers in
+      let reads = parsers m own.role own.config in
+      let writes = spells m their.role their.config units in
+      let spelled : EachPlace (Spelled (parsers m own.role own.config) (spells m their.role their.config units)) [] (their.config.version ∷ answers) =
+      all_spelled m own.role their.role own.config their.config (payloads_of own) (payloads_of their) receives.received units answers speaks laws lawful in
+      let read : Read (parsers m own.role own.config) [] [] s (their.config.version ∷ answers) ns (left ++ to_own.rest) =
+      subst (λ (l : Units). Read (parsers m own.role own.config) [] [] s l ns (left ++ to_own.rest)) all
+      (subst (λ (t : List ℕ). Read (parsers m own.role own.config) [] [] t us ns (left ++ to_own.rest)) (sym to_own.whole_is)
+      (read_more (parsers m own.role own.config) (laws.parsers m own.role own.config) [] [] received to_own.rest us ns left a.read)) in
       let none : left ++ to_own.rest ≡ [] =
-      after_all (parsers m own.role own.party) (spells m their.role their.party units) [] (their.party.version ∷ answers) ns s [] (left ++ to_own.rest)
-      (b.sent.spelled ∙ sym (append-nil (flat_places (spells m their.role their.party units) [] (their.party.version ∷ answers)))) spelled read in
+      after_all (parsers m own.role own.config) (spells m their.role their.config units) [] (their.config.version ∷ answers) ns s [] (left ++ to_own.rest)
+      (b.sent.spelled ∙ sym (append-nil (flat_places (spells m their.role their.config units) [] (their.config.version ∷ answers)))) spelled read in
       let nothing : to_own.rest ≡ [] = none_left to_own.rest (omega (arith, ap length none, length-append left to_own.rest)) in
       sym (to_own.whole_is ∙ (ap (λ (l : List ℕ). received ++ l) nothing ∙ append-nil received))
 
   -- both have hashed the same
-  pub same_exchange : (us : Units) → us ≡ their.party.version ∷ answers → switched_out answers ≡ true → IsReady own.role own.party (payloads_in us)
-      → exchange_at m own.role own.party (version_in us) (payloads_in us) ≡ exchange_at m their.role their.party (version_in units) (payloads_in units)
+  pub same_exchange : (us : Units) → us ≡ their.config.version ∷ answers → switched_out answers ≡ true → IsReady own.role own.config (payloads_in us)
+      → exchange_at m own.role own.config (version_in us) (payloads_in us) ≡ exchange_at m their.role their.config (version_in units) (payloads_in units)
   same_exchange us all on ready =
-      let now_ready : IsReady own.role own.party answers = subst (λ (l : Units). IsReady own.role own.party (payloads_in l)) all ready in
-      let way : SameWay m own.role their.role own.party their.party units answers =
-      same_way m own.role their.role own.party their.party (payloads_of own) (payloads_of their) receives.received units answers speaks answers (prefix-all answers) on now_ready in
-      ap (λ (l : Units). exchange_at m own.role own.party (version_in l) (payloads_in l)) all ∙ way.exchange
+      let now_ready : IsReady own.role own.config answers = subst (λ (l : Units). IsReady own.role own.config (payloads_in l)) all ready in
+      let way : SameWay m own.role their.role own.config their.config units answers =
+      same_way m own.role their.role own.config their.config (payloads_of own) (payloads_of their) receives.received units answers speaks answers (prefix-all answers) on now_ready in
+      ap (λ (l : Units). exchange_at m own.role own.config (version_in l) (payloads_in l)) all ∙ way.exchange
 
   -- what the one sends next, the other receives
-  pub direction : (us sent : Units) (ns left received : List ℕ) (refusal : Option Refusal) → Received (parsers m own.role own.party) received us ns left refusal → IsPrefix received s → us ≡ their.party.version ∷ answers → IsReady own.role own.party (payloads_in us) → (agreed other_agreed : AgreedData) (speaker receiver : Session)
+  pub direction : (us sent : Units) (ns left received : List ℕ) (refusal : Option Refusal) → Received (parsers m own.role own.config) received us ns left refusal → IsPrefix received s → us ≡ their.config.version ∷ answers → IsReady own.role own.config (payloads_in us) → (agreed other_agreed : AgreedData) (speaker receiver : Session)
       → IsSession (partner_setup m d their) units answers sizes agreed speaker → IsSession (partner_setup m d own) us sent ns other_agreed receiver → speaker.outgoing ≡ receiver.incoming
   direction us sent ns left received refusal a to_own all ready agreed other_agreed speaker receiver t u =
-      let out = keyed_by (switched_out answers) (written.after_all m (keys_at m their.role their.party (version_in units) (payloads_in units) their.role) (after_first is_newkeys [] answers)) speaker.outgoing.keys t.outgoing_keys in
-      let received_keys : keys_in m own.role own.party their.party.version answers ns ≡ Some receiver.incoming.keys = ap (λ (l : Units). keys_in m own.role own.party (version_in l) (payloads_in l) ns) (sym all) ∙ u.incoming_keys in
-      let now_ready : IsReady own.role own.party answers = subst (λ (l : Units). IsReady own.role own.party (payloads_in l)) all ready in
-      let way : SameWay m own.role their.role own.party their.party units answers =
-      same_way m own.role their.role own.party their.party (payloads_of own) (payloads_of their) receives.received units answers speaks answers (prefix-all answers) out.0 now_ready in
-      let switches = switches_sent m own.role their.role own.party their.party (payloads_of own) (payloads_of their) receives.received units answers speaks in
-      let numbers : number_in own.role own.party answers ≡ number_out (strict_at their.role their.party (payloads_in units)) answers =
-      numbers_same laws m lawful own.role their.role own.party their.party units answers switches out.0 way in
+      let out = keyed_by (switched_out answers) (written.after_all m (keys_at m their.role their.config (version_in units) (payloads_in units) their.role) (after_first is_newkeys [] answers)) speaker.outgoing.keys t.outgoing_keys in
+      let received_keys : keys_in m own.role own.config their.config.version answers ns ≡ Some receiver.incoming.keys = ap (λ (l : Units). keys_in m own.role own.config (version_in l) (payloads_in l) ns) (sym all) ∙ u.incoming_keys in
+      let now_ready : IsReady own.role own.config answers = subst (λ (l : Units). IsReady own.role own.config (payloads_in l)) all ready in
+      let way : SameWay m own.role their.role own.config their.config units answers =
+      same_way m own.role their.role own.config their.config (payloads_of own) (payloads_of their) receives.received units answers speaks answers (prefix-all answers) out.0 now_ready in
+      let switches = switches_sent m own.role their.role own.config their.config (payloads_of own) (payloads_of their) receives.received units answers speaks in
+      let numbers : number_in own.role own.config answers ≡ number_out (strict_at their.role their.config (payloads_in units)) answers =
+      numbers_same laws m lawful own.role their.role own.config their.config units answers switches out.0 way in
       same_direction speaker.outgoing receiver.incoming
-      (let sizes_are : ns ≡ sizes_so laws m lawful own.role their.role own.party their.party units answers
-      = received_sizes laws m d lawful own.role their.role own.party their.party (payloads_of own) (payloads_of their) receives.received units answers sizes rest h s None end b f (sent_within their units answers end is) received to_own.rest us ns left refusal
-      to_own.whole_is a ∙ ap (λ (l : Units). sizes_of (spells m their.role their.party units) [] l) all in
-      let both : keys_in m own.role own.party their.party.version answers (sizes_so laws m lawful own.role their.role own.party their.party units answers) ≡ keys_out m their.role their.party units answers
-      = keys_both m own.role their.role own.party their.party (payloads_of own) (payloads_of their) receives.received units answers speaks laws lawful out.0 now_ready in
+      (let sizes_are : ns ≡ sizes_so laws m lawful own.role their.role own.config their.config units answers
+      = received_sizes laws m d lawful own.role their.role own.config their.config (payloads_of own) (payloads_of their) receives.received units answers sizes rest h s None end b f (sent_within their units answers end is) received to_own.rest us ns left refusal
+      to_own.whole_is a ∙ ap (λ (l : Units). sizes_of (spells m their.role their.config units) [] l) all in
+      let both : keys_in m own.role own.config their.config.version answers (sizes_so laws m lawful own.role their.role own.config their.config units answers) ≡ keys_out m their.role their.config units answers
+      = keys_both m own.role their.role own.config their.config (payloads_of own) (payloads_of their) receives.received units answers speaks laws lawful out.0 now_ready in
       let one : Some speaker.outgoing.keys ≡ Some receiver.incoming.keys
-      = sym t.outgoing_keys ∙ (sym both ∙ (ap (λ (l : List ℕ). keys_in m own.role own.party their.party.version answers l) (sym sizes_are) ∙ received_keys)) in
+      = sym t.outgoing_keys ∙ (sym both ∙ (ap (λ (l : List ℕ). keys_in m own.role own.config their.config.version answers l) (sym sizes_are) ∙ received_keys)) in
       cc (one))
-      (t.outgoing_number ∙ (sym numbers ∙ (ap (λ (l : Units). number_in own.role own.party (payloads_in l)) (sym all) ∙ sym u.incoming_number)))
+      (t.outgoing_number ∙ (sym numbers ∙ (ap (λ (l : Units). number_in own.role own.config (payloads_in l)) (sym all) ∙ sym u.incoming_number)))
 
 -- Both, where each ended authenticated.
 module _ (laws : Laws) (below : Below) (m : SuiteData) (d : DecisionsData) (lawful : IsLawful m) (c : ClientData) (s : ServerData) (w : Wording) (receive : BothReceive m d c s w)

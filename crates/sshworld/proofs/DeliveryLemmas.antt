@@ -143,11 +143,11 @@ module _ {S D : Type 0} (meaning : S → SuiteData) (policy : D → DecisionsDat
     none_ended count (Err e) ended takes is broken = absurd (ended broken.was_open)
 
   -- so callers see it, if n bytes were received
-  takes_in : (role : Side) (party : ConfigData) (suite : S) (decisions : D) (sent : List ℕ) (old new : Node S D) (n : ℕ)
-      → NodeStands meaning policy role party suite decisions old sent → Takes meaning policy sent n old new → TakesIn n (node_data old) (node_data new)
-  takes_in role party suite decisions sent old new n s t =
+  takes_in : (role : Side) (config : ConfigData) (suite : S) (decisions : D) (sent : List ℕ) (old new : Node S D) (n : ℕ)
+      → NodeStands meaning policy role config suite decisions old sent → Takes meaning policy sent n old new → TakesIn n (node_data old) (node_data new)
+  takes_in role config suite decisions sent old new n s t =
       let r = node_receives sent old new n t in
-      let stands = receiver_stands meaning policy role party suite decisions sent old new s r in
+      let stands = receiver_stands meaning policy role config suite decisions sent old new s r in
       record {
         moved_on = moved_on sent old new n t;
         used_on = used_more sent old new n t s.all_used;

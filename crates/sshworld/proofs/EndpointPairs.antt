@@ -21,7 +21,7 @@ use Rattle.sshcore.specs.EndpointParts.{ConfigData, DecisionsData, Setup, client
 use Rattle.sshcore.specs.Replies.{Ends, ended, goes_on}
 use Rattle.sshcore.specs.Sessions.{IsSession}
 use Rattle.sshcore.proofs.AuthenticatedLemmas.{none_refused}
-use Rattle.sshcore.proofs.Below.{Below}
+use Rattle.sshcore.proofs.LawsBelow.{Below}
 use Rattle.sshcore.proofs.SessionLemmas.{uncut_end}
 use Rattle.sshworld.specs.Conversed.{EachReplies}
 use Rattle.sshworld.specs.CourseReceived.{BothReceive}
@@ -61,8 +61,8 @@ module _ {S D : Type 0} (meaning : S → SuiteData) (policy : D → DecisionsDat
         let p = j.server_after in
         subst (λ (r : Side). History (setup_with (meaning client.suite) (policy client.decisions) r (config_of_server s)) p.units p.sizes p.rest None p.answers (Authenticated b) server_received server_sent) j.is_server
         (subst (λ (q : ConfigData). History (setup_with (meaning client.suite) (policy client.decisions) server.role q) p.units p.sizes p.rest None p.answers (Authenticated b) server_received server_sent) j.of_server
-        (subst (λ (k : S). History (setup_with (meaning k) (policy client.decisions) server.role server.party) p.units p.sizes p.rest None p.answers (Authenticated b) server_received server_sent) j.one_suite
-        (subst (λ (k : D). History (setup_with (meaning server.suite) (policy k) server.role server.party) p.units p.sizes p.rest None p.answers (Authenticated b) server_received server_sent) j.same_decisions
+        (subst (λ (k : S). History (setup_with (meaning k) (policy client.decisions) server.role server.config) p.units p.sizes p.rest None p.answers (Authenticated b) server_received server_sent) j.one_suite
+        (subst (λ (k : D). History (setup_with (meaning server.suite) (policy k) server.role server.config) p.units p.sizes p.rest None p.answers (Authenticated b) server_received server_sent) j.same_decisions
         (history_so (endpoint_setup meaning policy server) _ server.input server_received server_sent p b other_is))))
 
     pub joined_received : (client_received ≡ server_sent) × (server_received ≡ client_sent) × (a ≡ b)
@@ -83,8 +83,8 @@ module _ {S D : Type 0} (meaning : S → SuiteData) (policy : D → DecisionsDat
         (subst (λ (x : ConfigData). IsSession (setup_with (meaning client.suite) (policy client.decisions) client.role x) p.units p.answers p.sizes a one) j.of_client t))
         (subst (λ (r : Side). IsSession (setup_with (meaning client.suite) (policy client.decisions) r (config_of_server s)) q.units q.answers q.sizes b other) j.is_server
         (subst (λ (x : ConfigData). IsSession (setup_with (meaning client.suite) (policy client.decisions) server.role x) q.units q.answers q.sizes b other) j.of_server
-        (subst (λ (k : S). IsSession (setup_with (meaning k) (policy client.decisions) server.role server.party) q.units q.answers q.sizes b other) j.one_suite
-        (subst (λ (k : D). IsSession (setup_with (meaning server.suite) (policy k) server.role server.party) q.units q.answers q.sizes b other) j.same_decisions u))))
+        (subst (λ (k : S). IsSession (setup_with (meaning k) (policy client.decisions) server.role server.config) q.units q.answers q.sizes b other) j.one_suite
+        (subst (λ (k : D). IsSession (setup_with (meaning server.suite) (policy k) server.role server.config) q.units q.answers q.sizes b other) j.same_decisions u))))
 
   had : (end : EndData) (a : AgreedData) → end ≡ Authenticated a → end ≢ Failed fault.Memory
   had end a is failed = cc (is, failed)

@@ -16,7 +16,7 @@ use Rattle.sshcore.specs.EndpointData.{endpoint_setup}
 use Rattle.sshworld.specs.declared.node.Node.{Node}
 use Rattle.sshworld.specs.Joined.{AreCrosswise, AreJoined, HandOver}
 use Rattle.sshworld.specs.Nodes.{NodesStand, seen}
-use Rattle.sshworld.specs.Understood.{AreUnderstood}
+use Rattle.sshworld.specs.Compatible.{AreCompatible}
 
 some_taken : (n : ℕ) (sent : List ℕ) → IsPrefix (take n sent) sent
 some_taken n sent = record { rest = drop n sent; whole_is = sym (take-append-drop n sent) }
@@ -79,13 +79,13 @@ module _ {S D : Type 0} (meaning : S → SuiteData) (policy : D → DecisionsDat
   pub handed : (r q : Option Session)
       → (x : Session) × (r ≡ Some x) × IsSession (endpoint_setup meaning policy client.endpoint) client_after.units client_after.answers client_after.sizes a x × (client_after.rest ≡ [])
       → (y : Session) × (q ≡ Some y) × IsSession (endpoint_setup meaning policy server.endpoint) server_after.units server_after.answers server_after.sizes b y × (server_after.rest ≡ [])
-      → ((x y : Session) → AreUnderstood (meaning client.endpoint.suite) (policy client.endpoint.decisions) c s
+      → ((x y : Session) → AreCompatible (meaning client.endpoint.suite) (policy client.endpoint.decisions) c s
       → IsSession (endpoint_setup meaning policy client.endpoint) nodes_joined.client_after.units nodes_joined.client_after.answers nodes_joined.client_after.sizes a x
       → IsSession (endpoint_setup meaning policy server.endpoint) nodes_joined.server_after.units nodes_joined.server_after.answers nodes_joined.server_after.sizes b y → AreCrosswise x y)
-      → HandOver meaning policy (AreUnderstood (meaning suite) (policy decisions) c s) (seen c s suite decisions client server) a b (option_zip r q)
+      → HandOver meaning policy (AreCompatible (meaning suite) (policy decisions) c s) (seen c s suite decisions client server) a b (option_zip r q)
   unfolding client_after server_after nodes_joined
   handed r q (x, rx, sx, _) (y, qy, sy, _) law =
-      subst (λ (t : Option (Session × Session)). HandOver meaning policy (AreUnderstood (meaning suite) (policy decisions) c s) (seen c s suite decisions client server) a b t) (zip_both r q x y rx qy) (record {
+      subst (λ (t : Option (Session × Session)). HandOver meaning policy (AreCompatible (meaning suite) (policy decisions) c s) (seen c s suite decisions client server) a b t) (zip_both r q x y rx qy) (record {
         of_client = client.endpoint;
         of_server = server.endpoint;
         client_end = refl;
@@ -99,10 +99,10 @@ module _ {S D : Type 0} (meaning : S → SuiteData) (policy : D → DecisionsDat
         server_agreed = sy.agreed_is;
         client_version = sx.own_version ∙ ap (λ (q : ConfigData). q.version) stands.client_stands.is_config;
         server_version = sy.own_version ∙ ap (λ (q : ConfigData). q.version) stands.server_stands.is_config;
-        crosswise = λ u. law x y (understood u) sx sy;
+        crosswise = λ u. law x y (compatible u) sx sy;
       })
     where
-      understood : AreUnderstood (meaning suite) (policy decisions) c s → AreUnderstood (meaning client.endpoint.suite) (policy client.endpoint.decisions) c s
-      understood u =
-          subst (λ (k : S). AreUnderstood (meaning k) (policy client.endpoint.decisions) c s) (sym stands.client_stands.is_suite)
-          (subst (λ (k : D). AreUnderstood (meaning suite) (policy k) c s) (sym stands.client_stands.is_decisions) u)
+      compatible : AreCompatible (meaning suite) (policy decisions) c s → AreCompatible (meaning client.endpoint.suite) (policy client.endpoint.decisions) c s
+      compatible u =
+          subst (λ (k : S). AreCompatible (meaning k) (policy client.endpoint.decisions) c s) (sym stands.client_stands.is_suite)
+          (subst (λ (k : D). AreCompatible (meaning suite) (policy k) c s) (sym stands.client_stands.is_decisions) u)

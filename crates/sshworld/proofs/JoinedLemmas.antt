@@ -17,7 +17,7 @@ use Rattle.sshcore.specs.EndData.{EndData, Open}
 use Rattle.sshcore.specs.History.{FitsPacket, History, IsReady}
 use Rattle.sshcore.specs.EndpointParts.{DecisionsData, client_setup, server_setup}
 use Rattle.sshcore.specs.Replies.{StaysOpen}
-use Rattle.sshcore.proofs.Below.{Below}
+use Rattle.sshcore.proofs.LawsBelow.{Below}
 use Rattle.sshworld.specs.Offered.{most_requests}
 use Rattle.sshworld.specs.CourseReceived.{BothReceive, client_partner, server_partner}
 use Rattle.sshworld.specs.Follows.{IsInPart}
@@ -52,18 +52,18 @@ sent_within p units answers end is = subst (λ (q : Units). IsPrefix q (payloads
 -- Their endpoint has sent these bytes, of which the own one has read these units.
 module _ (laws : Laws) (below : Below) (m : SuiteData) (d : DecisionsData) (lawful : IsLawful m) (own their : Partner) (receives : ReceivesCourse m d own their)
     (units answers : Units) (sizes rest h s : List ℕ) (end : EndData) (b : History (partner_setup m d their) units sizes rest None answers end h s)
-    (us : Units) (ns left received : List ℕ) (refusal : Option Refusal) (a : Received (parsers m own.role own.party) received us ns left refusal) (to_own : IsPrefix received s) where
+    (us : Units) (ns left received : List ℕ) (refusal : Option Refusal) (a : Received (parsers m own.role own.config) received us ns left refusal) (to_own : IsPrefix received s) where
   in_part_of : IsPrefix units (stream_of own) → IsInPart their.part units answers end
   in_part_of f = receives.keeps units answers end f b.replies
 
   -- where they have received units of the course alone, they have sent such
-  pub received_of_whole : IsPrefix units (stream_of own) → IsPrefix us (their.party.version ∷ answers)
+  pub received_of_whole : IsPrefix units (stream_of own) → IsPrefix us (their.config.version ∷ answers)
   received_of_whole f =
-      (received_prefix laws m d lawful own.role their.role own.party their.party (payloads_of own) (payloads_of their) receives.received units answers sizes rest h s None end b f
+      (received_prefix laws m d lawful own.role their.role own.config their.config (payloads_of own) (payloads_of their) receives.received units answers sizes rest h s None end b f
       (sent_within their units answers end (in_part_of f)) received to_own.rest us ns left refusal to_own.whole_is a).prefix
 
   pub in_stream : IsPrefix units (stream_of own) → IsPrefix us (stream_of their)
-  in_stream f = prefix-through us (their.party.version ∷ answers) (stream_of their) (received_of_whole f) (sent_prefix their.part units answers end (in_part_of f) their.party.version)
+  in_stream f = prefix-through us (their.config.version ∷ answers) (stream_of their) (received_of_whole f) (sent_prefix their.part units answers end (in_part_of f) their.config.version)
 
   -- the same up to a place
   module _ (so more : Units) (e : units ≡ so ++ more) (less : length so < length units) (f : IsPrefix so (stream_of own)) where
@@ -73,29 +73,29 @@ module _ (laws : Laws) (below : Below) (m : SuiteData) (d : DecisionsData) (lawf
     in_part_so : IsInPart their.part so (sent_so (partner_setup m d their) so) Open
     in_part_so = receives.keeps so (sent_so (partner_setup m d their) so) Open f (replies_so (partner_setup m d their) so stays)
 
-    one_way_so : OneWay us (their.party.version ∷ sent_so (partner_setup m d their) so)
+    one_way_so : OneWay us (their.config.version ∷ sent_so (partner_setup m d their) so)
     one_way_so =
         let sent : Units = sent_so (partner_setup m d their) so in
         let more_units_sent : IsPrefix sent answers = sent_more (partner_setup m d their) units so more answers None end e b.replies in
-        let ready : switched_out sent ≡ true → IsReady their.role their.party (payloads_in so) = ready_so (partner_setup m d their) below so stays in
-        let speaks : SpeaksInCourse their.role own.party their.party (payloads_of own) (payloads_of their) so sent = record {
+        let ready : switched_out sent ≡ true → IsReady their.role their.config (payloads_in so) = ready_so (partner_setup m d their) below so stays in
+        let speaks : SpeaksInCourse their.role own.config their.config (payloads_of own) (payloads_of their) so sent = record {
           received = f;
           sent = sent_within their so sent Open in_part_so;
           fits = each-prefix (λ before payload. FitsPacket payload) [] sent more_units_sent.rest (subst (λ (l : Units). EachPlace (λ before payload. FitsPacket payload) [] l) more_units_sent.whole_is b.fits);
           keyed = ready;
         } in
-        let spelled : EachPlace (Spelled (parsers m own.role own.party) (spells m their.role their.party so)) [] (their.party.version ∷ sent) =
-        all_spelled m own.role their.role own.party their.party (payloads_of own) (payloads_of their) receives.received so sent speaks laws lawful in
-        let bytes : IsPrefix (flat_places (spells m their.role their.party so) [] (their.party.version ∷ sent)) s = bytes_so (partner_setup m d their) units so more answers s e more_units_sent ready b.sent in
-        one_way (parsers m own.role own.party) (spells m their.role their.party so) [] (their.party.version ∷ sent) us ns s bytes.rest (left ++ to_own.rest) bytes.whole_is spelled
-        (subst (λ (t : List ℕ). Read (parsers m own.role own.party) [] [] t us ns (left ++ to_own.rest)) (sym to_own.whole_is)
-        (read_more (parsers m own.role own.party) (laws.parsers m own.role own.party) [] [] received to_own.rest us ns left a.read))
+        let spelled : EachPlace (Spelled (parsers m own.role own.config) (spells m their.role their.config so)) [] (their.config.version ∷ sent) =
+        all_spelled m own.role their.role own.config their.config (payloads_of own) (payloads_of their) receives.received so sent speaks laws lawful in
+        let bytes : IsPrefix (flat_places (spells m their.role their.config so) [] (their.config.version ∷ sent)) s = bytes_so (partner_setup m d their) units so more answers s e more_units_sent ready b.sent in
+        one_way (parsers m own.role own.config) (spells m their.role their.config so) [] (their.config.version ∷ sent) us ns s bytes.rest (left ++ to_own.rest) bytes.whole_is spelled
+        (subst (λ (t : List ℕ). Read (parsers m own.role own.config) [] [] t us ns (left ++ to_own.rest)) (sym to_own.whole_is)
+        (read_more (parsers m own.role own.config) (laws.parsers m own.role own.config) [] [] received to_own.rest us ns left a.read))
 
-    so_in_stream : IsPrefix (their.party.version ∷ sent_so (partner_setup m d their) so) (stream_of their)
-    so_in_stream = sent_prefix their.part so (sent_so (partner_setup m d their) so) Open in_part_so their.party.version
+    so_in_stream : IsPrefix (their.config.version ∷ sent_so (partner_setup m d their) so) (stream_of their)
+    so_in_stream = sent_prefix their.part so (sent_so (partner_setup m d their) so) Open in_part_so their.config.version
 
-    so_count : length (their.party.version ∷ sent_so (partner_setup m d their) so) ≡ units_sent their.part (length so)
-    so_count = sent_count their.part so (sent_so (partner_setup m d their) so) Open in_part_so their.party.version
+    so_count : length (their.config.version ∷ sent_so (partner_setup m d their) so) ≡ units_sent their.part (length so)
+    so_count = sent_count their.part so (sent_so (partner_setup m d their) so) Open in_part_so their.config.version
 
   -- So many units as they have sent when they have received k of the course are of the course.
   pub step : (k n : ℕ) → n ≤ units_sent their.part k → IsPrefix (take k units) (stream_of own) → IsPrefix (take n us) (stream_of their)
@@ -106,7 +106,7 @@ module _ (laws : Laws) (below : Below) (m : SuiteData) (d : DecisionsData) (lawf
         let e : units ≡ so ++ drop k units = sym (take-append-drop k units) in
         let size : length so ≡ k = length-take-le k units (omega (arith, less)) in
         let fewer_so : length so < length units = omega (arith, size, less) in
-        let sent : Units = their.party.version ∷ sent_so (partner_setup m d their) so in
+        let sent : Units = their.config.version ∷ sent_so (partner_setup m d their) so in
         let count : length sent ≡ units_sent their.part k = so_count so (drop k units) e fewer_so f ∙ ap (λ (i : ℕ). units_sent their.part i) size in
         by n sent (omega (arith, low, count)) (so_in_stream so (drop k units) e fewer_so f) (one_way_so so (drop k units) e fewer_so f)
   ]

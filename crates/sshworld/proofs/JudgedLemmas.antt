@@ -21,19 +21,19 @@ use Rattle.sshcore.specs.declared.end.Fault.TheVariants as fault
 use Rattle.sshcore.specs.Attempts.{agreed_by}
 use Rattle.sshcore.specs.ConfigParts.{AttemptData, ByKey, ByNothing, ByPassword, ClientData, CredentialData, ServerData, client_offer, own_marker, server_offer}
 use Rattle.sshcore.specs.EndData.{AgreedData, Authenticated, Reply, fails, goes}
-use Rattle.sshcore.specs.Known.{Known}
+use Rattle.sshcore.specs.KnownBefore.{Known}
 use Rattle.sshcore.specs.EndpointParts.{DecisionsData, KeyProof, PasswordProof, ProofData, config_of_server}
 use Rattle.sshcore.specs.Plan.{asks, proving_name}
-use Rattle.sshcore.specs.Reached.{Tried, are_reached, nothing_reached, reached_after}
+use Rattle.sshcore.specs.CompletedMethods.{Tried, are_completed, completed_after, none_completed}
 use Rattle.sshcore.specs.Requests.{completes, method_reply, more_reply, query_answer, request_reply, tried_reply, would_do}
 use Rattle.sshcore.specs.Tries.{is_decided, is_successful_at, proof_in, tried_with}
-use Rattle.sshcore.proofs.ReachedLemmas.{complete_is}
+use Rattle.sshcore.proofs.CompletedMethodsLemmas.{complete_is}
 use Rattle.sshworld.specs.Agreement.{agreed, session_between}
 use Rattle.sshworld.specs.Course.{received_last}
 use Rattle.sshworld.specs.Held.{held_method}
 use Rattle.sshworld.specs.Judging.{is_proved, is_successful, is_usable, proved_by}
 use Rattle.sshworld.specs.Offered.{offered}
-use Rattle.sshworld.specs.Understood.{CanSign}
+use Rattle.sshworld.specs.Compatible.{CanSign}
 use Rattle.sshworld.specs.Verdicts.{Exhausted, How, Limit, Success, Unknown, ends_by, is_accepted, tried_by, tried_of, verdict, verdict_after}
 use Rattle.sshworld.specs.Wordings.{answer_to}
 use Rattle.sshworld.proofs.Readable.{AreSound, HasShortBlob, IsTestedName}
@@ -138,7 +138,7 @@ module _ (m : SuiteData) (d : DecisionsData) (c : ClientData) (s : ServerData) (
       session = session;
       request = length made + 1;
       left = left;
-      reached = reached_after nothing_reached (tried_of m d s made);
+      completed = completed_after none_completed (tried_of m d s made);
       strict = strict;
       first = first;
       allowance = allowance;
@@ -148,7 +148,7 @@ module _ (m : SuiteData) (d : DecisionsData) (c : ClientData) (s : ServerData) (
       abbrev method : MethodData
       method = held_method m session r.user r.service r.proving
 
-      -- all required methods are reached after a successful request
+      -- all required methods are completed after a successful request
       done_same : (b : Bool) → is_successful m d s (length made + 1) r ≡ b → (b && completes (config_of_server s) k r.user r.service method b) ≡ is_accepted m d s made r
       done_same false e = rw e refl
       done_same true e =
@@ -156,7 +156,7 @@ module _ (m : SuiteData) (d : DecisionsData) (c : ClientData) (s : ServerData) (
           let name : method_name method ≡ proving_name r.proving = method_named m session r.user r.service r.proving in
           let same : t ≡ tried_by m d s made r = rw (e, name) refl in
           let whole : tried_of m d s made ++ t ∷ [] ≡ tried_of m d s (made ++ r ∷ []) = ap (λ (x : Tried). tried_of m d s made ++ x ∷ []) same ∙ sym (tried_more made r) in
-          rw e (complete_is (tried_of m d s made) t (method_name method) refl s.required sound.required ∙ ap (λ (l : List Tried). are_reached s.required r.user r.service l) whole)
+          rw e (complete_is (tried_of m d s made) t (method_name method) refl s.required sound.required ∙ ap (λ (l : List Tried). are_completed s.required r.user r.service l) whole)
 
       -- a request that isn't the last is told so much
       more_same : (x : MessageData) → x ≡ answer_to m d s made r → (last : Bool) → (length made + 1 == s.tries) ≡ last → more_reply (config_of_server s) k x ≡ how_reply m d c s a made r (if last then Some Limit else None)

@@ -1,4 +1,3 @@
-pub mod OwnedLemmas
 pub mod VerdictLemmas
 pub mod JudgeLemmas
 pub mod ProgressLemmas

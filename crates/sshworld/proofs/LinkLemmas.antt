@@ -5,7 +5,7 @@ use Rattle.std.specs.Prelude.{◌^◌}
 use Rattle.std.proofs.lemmas.Bool.{cases_Bool, true≢false}
 use Rattle.std.proofs.lemmas.List.{append-nil}
 use Rattle.std.proofs.lemmas.Nat.{mod_below}
-use Rattle.sshmsg.specs.Numbers.{kind}
+use Rattle.sshmsg.specs.Numbers.{message_number}
 use Rattle.sshneg.specs.declared.side.Side.{Side}
 use Rattle.sshneg.specs.Markers.{other}
 use Rattle.sshpacket.specs.KeysData.{KeysData}
@@ -54,7 +54,7 @@ module _ (t u : Units → List ℕ → Bool) where
 
 -- NEWKEYS isn't dropped here
 abbrev pub SameSwitch : Side → ConfigData → Units → List ℕ → Type 0
-SameSwitch role own before p = kept role own.offer 21 before p ≡ (kind p == 21)
+SameSwitch role own before p = kept role own.offer 21 before p ≡ (message_number p == 21)
 
 module _ (role : Side) (own : ConfigData) where
   -- the switch and the packets after it are the same on both sides
@@ -138,7 +138,7 @@ module _ (laws : Laws) (m : SuiteData) (lawful : IsLawful m) where
           ∙ ap (λ (n : ℕ). Some (advanced m used n)) size
           ∙ sym (keys_on m peer their received before p was ∙ ap (λ (k : Option KeysData). keys_after m k p) speaks)
       | inr off ↦
-          let newkeys : (kind p == 21) ≡ true = sym (switched_push before p ∙ rw off refl) ∙ on in
+          let newkeys : (message_number p == 21) ≡ true = sym (switched_push before p ∙ rw off refl) ∙ on in
           here ∙ ap (λ (ns : List ℕ). Some (all_advanced m in_keys_after ns)) (sizes_off role own before p (sizes_so (before ++ p ∷ [])) (switch_same role own before same ∙ off))
           ∙ none_advanced m in_keys_after
           ∙ ap (λ (k : KeysData). Some k) (way_after on ready).keys
@@ -230,15 +230,15 @@ begins_so (u ∷ us) version ps f e =
     let is : version ∷ ps ≡ u ∷ (us ++ f.rest) = f.whole_is in
     (cc, record { rest = f.rest; whole_is = cc })
 
-module _ (m : SuiteData) (role : Side) (party : ConfigData) where
-  keys_of_prefix : (version : List ℕ) (xs ys : Units) (sender : Side) → IsPrefix xs ys → IsReady role party xs → keys_at m role party version ys sender ≡ keys_at m role party version xs sender
-  keys_of_prefix version xs ys sender f r = ap (λ (q : Units). keys_at m role party version q sender) f.whole_is ∙ keys_stay m role party version xs f.rest sender r
+module _ (m : SuiteData) (role : Side) (config : ConfigData) where
+  keys_of_prefix : (version : List ℕ) (xs ys : Units) (sender : Side) → IsPrefix xs ys → IsReady role config xs → keys_at m role config version ys sender ≡ keys_at m role config version xs sender
+  keys_of_prefix version xs ys sender f r = ap (λ (q : Units). keys_at m role config version q sender) f.whole_is ∙ keys_stay m role config version xs f.rest sender r
 
-  exchange_of_prefix : (version : List ℕ) (xs ys : Units) → IsPrefix xs ys → IsReady role party xs → exchange_at m role party version ys ≡ exchange_at m role party version xs
-  exchange_of_prefix version xs ys f r = ap (λ (q : Units). exchange_at m role party version q) f.whole_is ∙ exchange_stays m role party version xs f.rest r
+  exchange_of_prefix : (version : List ℕ) (xs ys : Units) → IsPrefix xs ys → IsReady role config xs → exchange_at m role config version ys ≡ exchange_at m role config version xs
+  exchange_of_prefix version xs ys f r = ap (λ (q : Units). exchange_at m role config version q) f.whole_is ∙ exchange_stays m role config version xs f.rest r
 
-  strict_of_prefix : (xs ys : Units) → IsPrefix xs ys → IsReady role party xs → strict_at role party ys ≡ strict_at role party xs
-  strict_of_prefix xs ys f r = ap (λ (q : Units). strict_at role party q) f.whole_is ∙ strict_stays m role party xs f.rest r.offer
+  strict_of_prefix : (xs ys : Units) → IsPrefix xs ys → IsReady role config xs → strict_at role config ys ≡ strict_at role config xs
+  strict_of_prefix xs ys f r = ap (λ (q : Units). strict_at role config q) f.whole_is ∙ strict_stays m role config xs f.rest r.offer
 
 module _ (m : SuiteData) (role peer : Side) (own their : ConfigData) (ours theirs : Units) (can : CanBeReceived m role peer own their ours theirs) (units answers : Units) (speaks : SpeaksInCourse peer own their ours theirs units answers) where
   pub same_way : (b : Units) → IsPrefix b answers → switched_out b ≡ true → IsReady role own b → SameWay m role peer own their units b

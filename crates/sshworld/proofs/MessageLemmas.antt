@@ -11,9 +11,9 @@ use Rattle.sshwire.specs.TypeReadings as readings
 use Rattle.sshmsg.specs.MessageData.{Disconnect, KexInit, MessageData, NewKeys, ServiceAccept, ServiceRequest, UserauthBanner, UserauthFailure, UserauthPkOk, UserauthRequest, UserauthSuccess}
 use Rattle.sshmsg.specs.MessageData as messages
 use Rattle.sshmsg.specs.Messages.{message_in}
-use Rattle.sshmsg.specs.Numbers.{kind, number_of}
-use Rattle.sshmsg.specs.Written.{written_message}
-use Rattle.sshmsg.proofs.NumberLemmas.{kind_tells}
+use Rattle.sshmsg.specs.Numbers.{message_number, number_of}
+use Rattle.sshmsg.specs.Written.{kexinit_payload, written_message}
+use Rattle.sshmsg.proofs.NumberLemmas.{message_number_tells}
 use Rattle.sshneg.specs.declared.choice.NoCommon.{NoCommon}
 use Rattle.sshneg.specs.declared.side.Side.{Side}
 use Rattle.sshneg.specs.declared.side.Side.TheVariants.{Client, Server}
@@ -26,37 +26,37 @@ use Rattle.sshneg.proofs.EndLemmas.{one_answer}
 use Rattle.sshpacket.specs.Stream.{Units}
 use Rattle.sshpacket.specs.Suite.{ResponseData, SuiteData}
 use Rattle.sshcore.specs.declared.end.Fault.TheVariants as fault
-use Rattle.sshcore.specs.declared.table.Line.TheVariants as line
-use Rattle.sshcore.specs.declared.table.Phase.{Phase}
-use Rattle.sshcore.specs.declared.table.Phase.TheVariants as phase
+use Rattle.sshcore.specs.declared.phase_table.Disposition.TheVariants as disposition
+use Rattle.sshcore.specs.declared.phase_table.Phase.{Phase}
+use Rattle.sshcore.specs.declared.phase_table.Phase.TheVariants as phase
 use Rattle.sshcore.specs.Attempts.{attempt_reply}
 use Rattle.sshcore.specs.ConfigParts.{AttemptData, ByKey, ClientData, ServerData, client_offer, own_marker, server_offer, version_of}
 use Rattle.sshcore.specs.EndData.{Authenticated, Closed, fails, goes}
 use Rattle.sshcore.specs.Exchange.{answer_or, answer_with, chosen_or, exchange_with, secret_of, shares_by}
-use Rattle.sshcore.specs.Known.{Known}
+use Rattle.sshcore.specs.KnownBefore.{Known}
 use Rattle.sshcore.specs.EndpointParts.{ConfigData, DecisionsData, Setup, client_setup, config_of_client, config_of_server, server_setup}
 use Rattle.sshcore.specs.Phases.{leaving}
 use Rattle.sshcore.specs.Plan.{is_waiting, next_after}
-use Rattle.sshcore.specs.Reached.{ReachedData, nothing_reached, reached_after_one}
+use Rattle.sshcore.specs.CompletedMethods.{CompletedMethodsData, completed_after_one, none_completed}
 use Rattle.sshcore.specs.Replies.{reply_at}
 use Rattle.sshcore.specs.Requests.{request_reply}
 use Rattle.sshcore.specs.Standing.{LeavesNone, Sits, exchange_received}
-use Rattle.sshcore.specs.Table.{line_by, is_ignorable}
+use Rattle.sshcore.specs.Table.{disposition_by, is_ignorable}
 use Rattle.sshcore.specs.Tries.{is_successful_at, tried_with}
 use Rattle.sshcore.specs.Work.{answered_by, asks_by, asks_for_extensions, banner_by, chosen_reply, init_for, init_in, init_reply, reply_in, reply_reply, signed_by, signed_reply, told_by, trusted_by, userauth, work}
 use Rattle.sshcore.proofs.ExtensionLemmas.{told_unasked}
-use Rattle.sshcore.proofs.ReachedLemmas.{bytes_self}
+use Rattle.sshcore.proofs.CompletedMethodsLemmas.{bytes_self}
 use Rattle.sshworld.specs.Agreement.{answer_of_server, exchange_between, host_key_of_server, session_between}
 use Rattle.sshworld.specs.Held.{held_method, held_request}
 use Rattle.sshworld.specs.Offered.{offered}
-use Rattle.sshworld.specs.Understood.{AreUnderstood}
+use Rattle.sshworld.specs.Compatible.{AreCompatible}
 use Rattle.sshworld.specs.Wordings.{reply_of_server, signature_of_server}
 use Rattle.sshworld.proofs.HeldLemmas.{signed_held}
 use Rattle.sshworld.proofs.Readable.{AreOffersRead, AreSound, IsRead, ReadsAgain}
 use Rattle.sshworld.proofs.StepLemmas.{begins, drops, goes_dropped, goes_exchanged, goes_leaving, goes_staying, reads, replies_first}
 
-leaving_line : (waits : Bool) → (role : Side) (p : Phase) (strict : Bool) → line_by role p strict false waits (leaving role p) ≡ line.Reads
-unfolding line_by
+leaving_line : (waits : Bool) → (role : Side) (p : Phase) (strict : Bool) → disposition_by role p strict false waits (leaving role p) ≡ disposition.Reads
+unfolding disposition_by
 leaving_line waits Client phase.KexInit strict = refl
 leaving_line waits Client phase.Exchange true = refl
 leaving_line waits Client phase.Exchange false = refl
@@ -73,23 +73,23 @@ leaving_line waits Server phase.Service strict = refl
 leaving_line waits Server phase.Auth strict = refl
 
 -- authentication at a client, and a DISCONNECT anywhere
-auth_line : (waits : Bool) → (strict : Bool) (n : ℕ) → (n ≡ 51) ⊎ (n ≡ 53) → line_by Client phase.Auth strict false waits n ≡ line.Reads
-unfolding line_by
+auth_line : (waits : Bool) → (strict : Bool) (n : ℕ) → (n ≡ 51) ⊎ (n ≡ 53) → disposition_by Client phase.Auth strict false waits n ≡ disposition.Reads
+unfolding disposition_by
 auth_line waits strict n (inl e) = rw e refl
 auth_line waits strict n (inr e) = rw e refl
 
-closing_line : (waits : Bool) → (role : Side) (p : Phase) (strict guess : Bool) → line_by role p strict guess waits 1 ≡ line.Reads
-unfolding line_by
+closing_line : (waits : Bool) → (role : Side) (p : Phase) (strict guess : Bool) → disposition_by role p strict guess waits 1 ≡ disposition.Reads
+unfolding disposition_by
 closing_line waits role p strict guess = refl
 
-drops_line : (waits : Bool) → (strict : Bool) → line_by Server phase.Exchange strict true waits 30 ≡ line.Drops
-unfolding line_by
+drops_line : (waits : Bool) → (strict : Bool) → disposition_by Server phase.Exchange strict true waits 30 ≡ disposition.Drops
+unfolding disposition_by
 drops_line waits true = refl
 drops_line waits false = refl
 
 -- a PK_OK at a client, while a query waits
-confirms_line : (strict : Bool) → line_by Client phase.Auth strict false true 60 ≡ line.Reads
-unfolding line_by
+confirms_line : (strict : Bool) → disposition_by Client phase.Auth strict false true 60 ≡ disposition.Reads
+unfolding disposition_by
 confirms_line strict = refl
 
 -- the messages of an exchange, whatever form their shares have
@@ -103,13 +103,13 @@ reply_number Mpint k e sign = refl
 reply_number OctetString k e sign = refl
 reply_number Hybrid k e sign = refl
 
-init_begins : (f : ShareForm) (e : List ℕ) → kind (written_message (init_in f e)) ≡ 30
+init_begins : (f : ShareForm) (e : List ℕ) → message_number (written_message (init_in f e)) ≡ 30
 unfolding written_message
 init_begins Mpint e = refl
 init_begins OctetString e = refl
 init_begins Hybrid e = refl
 
-pub init_kind : (m : SuiteData) (own : ConfigData) (kex : List ℕ) → kind (init_for m own kex) ≡ 30
+pub init_kind : (m : SuiteData) (own : ConfigData) (kex : List ℕ) → message_number (init_for m own kex) ≡ 30
 init_kind m own kex = init_begins (m.share_form kex) (m.share kex own.random)
 
 work_init : (setup : Setup) (x : Known) (f : ShareForm) (e : List ℕ) → work setup x (init_in f e) ≡ init_reply setup.suite setup.decisions setup.role setup.config x (init_in f e)
@@ -125,15 +125,15 @@ work_reply setup x Mpint k e sign = refl
 work_reply setup x OctetString k e sign = refl
 work_reply setup x Hybrid k e sign = refl
 
-init_answer : (m : SuiteData) (role : Side) (party : ConfigData) (a : AlgorithmsData) (f : ShareForm) (e : List ℕ) → answer_with m role party a (Ok (init_in f e)) ≡ answer_by role m a.kex party.random e
-init_answer m role party a Mpint e = refl
-init_answer m role party a OctetString e = refl
-init_answer m role party a Hybrid e = refl
+init_answer : (m : SuiteData) (role : Side) (config : ConfigData) (a : AlgorithmsData) (f : ShareForm) (e : List ℕ) → answer_with m role config a (Ok (init_in f e)) ≡ answer_by role m a.kex config.random e
+init_answer m role config a Mpint e = refl
+init_answer m role config a OctetString e = refl
+init_answer m role config a Hybrid e = refl
 
-reply_answer : (m : SuiteData) (role : Side) (party : ConfigData) (a : AlgorithmsData) (f : ShareForm) (k e sign : List ℕ) → answer_with m role party a (Ok (reply_in f k e sign)) ≡ answer_by role m a.kex party.random e
-reply_answer m role party a Mpint k e sign = refl
-reply_answer m role party a OctetString k e sign = refl
-reply_answer m role party a Hybrid k e sign = refl
+reply_answer : (m : SuiteData) (role : Side) (config : ConfigData) (a : AlgorithmsData) (f : ShareForm) (k e sign : List ℕ) → answer_with m role config a (Ok (reply_in f k e sign)) ≡ answer_by role m a.kex config.random e
+reply_answer m role config a Mpint k e sign = refl
+reply_answer m role config a OctetString k e sign = refl
+reply_answer m role config a Hybrid k e sign = refl
 
 -- what is read without any condition
 pub new_keys_read : ReadsAgain NewKeys
@@ -192,7 +192,7 @@ module _ (setup : Setup) (version : List ℕ) where
   switches before x s = goes_leaving setup version before (written_message NewKeys) phase.NewKeys x NewKeys s refl (new_keys_read Mpint) refl
 
 -- the client
-module _ (m : SuiteData) (d : DecisionsData) (c : ClientData) (s : ServerData) (understood : AreUnderstood m d c s) (sound : AreSound c s) (offers : AreOffersRead c s) where
+module _ (m : SuiteData) (d : DecisionsData) (c : ClientData) (s : ServerData) (compatible : AreCompatible m d c s) (sound : AreSound c s) (offers : AreOffersRead c s) where
   -- the first message: the choice
   pub client_first : reply_at (client_setup m d c) (version_of s.side) [] (written_message (KexInit (server_offer s)))
       ≡ chosen_reply m Client (config_of_client c) (server_offer s) (choice m (client_offer c) (server_offer s))
@@ -213,7 +213,7 @@ module _ (m : SuiteData) (d : DecisionsData) (c : ClientData) (s : ServerData) (
       session = session;
       request = 1;
       left = left;
-      reached = nothing_reached;
+      completed = none_completed;
       strict = is_strict c.side.strict Client (server_offer s);
       first = false;
       allowance = allowance;
@@ -239,18 +239,18 @@ module _ (m : SuiteData) (d : DecisionsData) (c : ClientData) (s : ServerData) (
 
     -- the server answers
     responded : m.respond a.kex s.side.random (m.share a.kex c.side.random) ≡ Some (answer_of_server m c s a.kex)
-    responded = let g = understood.exchange a chosen in subst (λ (o : Option ResponseData). o ≡ Some (answer_or o)) (sym g.responds) refl
+    responded = let g = compatible.exchange a chosen in subst (λ (o : Option ResponseData). o ≡ Some (answer_or o)) (sym g.responds) refl
 
     -- the client comes to the server's answer
     client_answer : answer_by Client m a.kex c.side.random (answer_of_server m c s a.kex).share ≡ Some (answer_of_server m c s a.kex)
     client_answer =
-        let g = understood.exchange a chosen in
+        let g = compatible.exchange a chosen in
         subst (λ (o : Option ResponseData). answer_by Client m a.kex c.side.random (answer_or o).share ≡ Some (answer_or o)) (sym g.responds) (one_answer m a.kex c.side.random s.side.random g g.answer g.responds)
 
     -- and both hash the same
     client_same : (f : ShareForm) → exchange_with m Client (config_of_client c) a (version_of s.side) (written_message (KexInit (server_offer s)))
         (Ok (reply_in f (host_key_of_server m s a.host_key) (answer_of_server m c s a.kex).share (signature_of_server m c s a))) ≡ exchange_between m c s a
-    unfolding exchange_with exchange_by
+    unfolding exchange_with exchange_by kexinit_payload written_message
     client_same Mpint = ap (λ (o : Option ResponseData). record (exchange_between m c s a) { server_share = (answer_or o).share; shared = (answer_or o).shared }) client_answer
     client_same OctetString = ap (λ (o : Option ResponseData). record (exchange_between m c s a) { server_share = (answer_or o).share; shared = (answer_or o).shared }) client_answer
     client_same Hybrid = ap (λ (o : Option ResponseData). record (exchange_between m c s a) { server_share = (answer_or o).share; shared = (answer_or o).shared }) client_answer
@@ -262,8 +262,8 @@ module _ (m : SuiteData) (d : DecisionsData) (c : ClientData) (s : ServerData) (
         (client_same (m.share_form a.kex)) (goes_exchanged (client_setup m d c) (version_of s.side) (written_message (KexInit (server_offer s)) ∷ []) reply_payload (client_unswitched [] c.plan) reply_content
         client_begins readable.reply (reply_number (m.share_form a.kex) (host_key_of_server m s a.host_key) (answer_of_server m c s a.kex).share (signature_of_server m c s a)))
 
-    pub reply_begun : kind reply_payload ≡ 31
-    reply_begun = kind_tells (m.share_form a.kex) reply_payload reply_content readable.reply ∙ reply_number (m.share_form a.kex) (host_key_of_server m s a.host_key) (answer_of_server m c s a.kex).share (signature_of_server m c s a)
+    pub reply_begun : message_number reply_payload ≡ 31
+    reply_begun = message_number_tells (m.share_form a.kex) reply_payload reply_content readable.reply ∙ reply_number (m.share_form a.kex) (host_key_of_server m s a.host_key) (answer_of_server m c s a.kex).share (signature_of_server m c s a)
 
     pub client_hashed : exchange_received m Client (config_of_client c) (client_unswitched [] c.plan) reply_payload ≡ exchange_between m c s a
     client_hashed = ap (λ r. exchange_with m Client (config_of_client c) a (version_of s.side) (written_message (KexInit (server_offer s))) r) readable.reply ∙ client_same (m.share_form a.kex)
@@ -275,7 +275,7 @@ module _ (m : SuiteData) (d : DecisionsData) (c : ClientData) (s : ServerData) (
     client_replied =
         reads (client_setup m d c) (version_of s.side) (written_message (KexInit (server_offer s)) ∷ []) reply_payload phase.Exchange false (client_unswitched [] c.plan) reply_content
         (ap is_ignorable (reply_number (m.share_form a.kex) (host_key_of_server m s a.host_key) (answer_of_server m c s a.kex).share (signature_of_server m c s a))) client_begins readable.reply
-        (ap (λ (n : ℕ). line_by Client phase.Exchange (client_unswitched [] c.plan).strict false (is_waiting (client_unswitched [] c.plan).left) n) (reply_number (m.share_form a.kex) (host_key_of_server m s a.host_key) (answer_of_server m c s a.kex).share (signature_of_server m c s a))
+        (ap (λ (n : ℕ). disposition_by Client phase.Exchange (client_unswitched [] c.plan).strict false (is_waiting (client_unswitched [] c.plan).left) n) (reply_number (m.share_form a.kex) (host_key_of_server m s a.host_key) (answer_of_server m c s a.kex).share (signature_of_server m c s a))
         ∙ leaving_line _ Client phase.Exchange (client_unswitched [] c.plan).strict)
         ∙ work_reply (client_setup m d c) (client_unswitched [] c.plan) (m.share_form a.kex) (host_key_of_server m s a.host_key) (answer_of_server m c s a.kex).share (signature_of_server m c s a)
         ∙ ap (λ (x : ExchangeData). trusted_by m d (client_unswitched [] c.plan) x (signature_of_server m c s a) (answer_with m Client (config_of_client c) a (Ok reply_content))) (client_same (m.share_form a.kex))
@@ -288,7 +288,7 @@ module _ (m : SuiteData) (d : DecisionsData) (c : ClientData) (s : ServerData) (
     client_trusts decided_yes =
         client_replied
         ∙ ap (λ (b : Bool). if b then signed_by m (client_unswitched [] c.plan) (exchange_between m c s a) (signature_of_server m c s a) (Some (answer_of_server m c s a.kex)) else fails fault.HostKey) decided_yes
-        ∙ ap (λ (b : Bool). if b then goes (written_message NewKeys ∷ written_message (ServiceRequest userauth) ∷ []) else fails fault.Signature) (understood.host_key a chosen decided_yes (session_between m c s a))
+        ∙ ap (λ (b : Bool). if b then goes (written_message NewKeys ∷ written_message (ServiceRequest userauth) ∷ []) else fails fault.Signature) (compatible.host_key a chosen decided_yes (session_between m c s a))
 
     pub client_refuses : d.host_key a.host_key (host_key_of_server m s a.host_key) ≡ false
         → reply_at (client_setup m d c) (version_of s.side) (written_message (KexInit (server_offer s)) ∷ []) reply_payload ≡ fails fault.HostKey
@@ -297,8 +297,8 @@ module _ (m : SuiteData) (d : DecisionsData) (c : ClientData) (s : ServerData) (
         ∙ ap (λ (b : Bool). if b then signed_by m (client_unswitched [] c.plan) (exchange_between m c s a) (signature_of_server m c s a) (Some (answer_of_server m c s a.kex)) else fails fault.HostKey) decided_no
 
     -- the server
-    abbrev pub server_known : Option ℕ → Result AlgorithmsData NoCommon → List ℕ → ℕ → ReachedData → Known
-    server_known allowance r session request reached = record {
+    abbrev pub server_known : Option ℕ → Result AlgorithmsData NoCommon → List ℕ → ℕ → CompletedMethodsData → Known
+    server_known allowance r session request completed = record {
       version = version_of c.side;
       kexinit = written_message (KexInit (client_offer c));
       algorithms = chosen_or r;
@@ -306,44 +306,44 @@ module _ (m : SuiteData) (d : DecisionsData) (c : ClientData) (s : ServerData) (
       session = session;
       request = request;
       left = [];
-      reached = reached;
+      completed = completed;
       strict = is_strict s.side.strict Server (client_offer c);
       first = false;
       allowance = allowance;
     }
 
     -- up to NEWKEYS, and after it
-    abbrev pub server_unswitched : List ℕ → ℕ → ReachedData → Known
-    server_unswitched session request reached = server_known None (Ok a) session request reached
+    abbrev pub server_unswitched : List ℕ → ℕ → CompletedMethodsData → Known
+    server_unswitched session request completed = server_known None (Ok a) session request completed
 
-    abbrev pub server_view : List ℕ → ℕ → ReachedData → Known
-    server_view session request reached = server_known s.side.ignored_limit (Ok a) session request reached
+    abbrev pub server_view : List ℕ → ℕ → CompletedMethodsData → Known
+    server_view session request completed = server_known s.side.ignored_limit (Ok a) session request completed
 
-    pub server_begins : Sits (server_setup m d s) (version_of c.side) (written_message (KexInit (client_offer c)) ∷ []) phase.Exchange (c.guess && not (is_right_guess (client_offer c) (server_offer s))) (server_unswitched [] 1 nothing_reached)
+    pub server_begins : Sits (server_setup m d s) (version_of c.side) (written_message (KexInit (client_offer c)) ∷ []) phase.Exchange (c.guess && not (is_right_guess (client_offer c) (server_offer s))) (server_unswitched [] 1 none_completed)
     server_begins =
-        subst (λ (r : Result AlgorithmsData NoCommon). Sits (server_setup m d s) (version_of c.side) (written_message (KexInit (client_offer c)) ∷ []) phase.Exchange (c.guess && not (is_right_guess (client_offer c) (server_offer s))) (server_known None r [] 1 nothing_reached))
+        subst (λ (r : Result AlgorithmsData NoCommon). Sits (server_setup m d s) (version_of c.side) (written_message (KexInit (client_offer c)) ∷ []) phase.Exchange (c.guess && not (is_right_guess (client_offer c) (server_offer s))) (server_known None r [] 1 none_completed))
         chosen (begins (server_setup m d s) (version_of c.side) (written_message (KexInit (client_offer c))) (client_offer c) (offers.client Mpint))
 
     abbrev pub init_payload : List ℕ
     init_payload = init_for m (config_of_client c) a.kex
 
     server_same : (f : ShareForm) → exchange_with m Server (config_of_server s) a (version_of c.side) (written_message (KexInit (client_offer c))) (Ok (init_in f (m.share a.kex c.side.random))) ≡ exchange_between m c s a
-    unfolding exchange_with exchange_by
+    unfolding exchange_with exchange_by kexinit_payload written_message
     server_same Mpint = refl
     server_same OctetString = refl
     server_same Hybrid = refl
 
-    pub server_exchanges : (before : Units) → Sits (server_setup m d s) (version_of c.side) before phase.Exchange false (server_unswitched [] 1 nothing_reached)
-        → Sits (server_setup m d s) (version_of c.side) (before ++ init_payload ∷ []) phase.NewKeys false (server_unswitched (session_between m c s a) 1 nothing_reached)
+    pub server_exchanges : (before : Units) → Sits (server_setup m d s) (version_of c.side) before phase.Exchange false (server_unswitched [] 1 none_completed)
+        → Sits (server_setup m d s) (version_of c.side) (before ++ init_payload ∷ []) phase.NewKeys false (server_unswitched (session_between m c s a) 1 none_completed)
     unfolding session_between
     server_exchanges before sits =
-        subst (λ (x : ExchangeData). Sits (server_setup m d s) (version_of c.side) (before ++ init_payload ∷ []) phase.NewKeys false (server_unswitched (exchange_hash m a.kex x) 1 nothing_reached)) (server_same (m.share_form a.kex))
-        (goes_exchanged (server_setup m d s) (version_of c.side) before init_payload (server_unswitched [] 1 nothing_reached) (init_in (m.share_form a.kex) (m.share a.kex c.side.random)) sits readable.init (init_number (m.share_form a.kex) (m.share a.kex c.side.random)))
+        subst (λ (x : ExchangeData). Sits (server_setup m d s) (version_of c.side) (before ++ init_payload ∷ []) phase.NewKeys false (server_unswitched (exchange_hash m a.kex x) 1 none_completed)) (server_same (m.share_form a.kex))
+        (goes_exchanged (server_setup m d s) (version_of c.side) before init_payload (server_unswitched [] 1 none_completed) (init_in (m.share_form a.kex) (m.share a.kex c.side.random)) sits readable.init (init_number (m.share_form a.kex) (m.share a.kex c.side.random)))
 
-    pub init_begun : kind init_payload ≡ 30
+    pub init_begun : message_number init_payload ≡ 30
     init_begun = init_kind m (config_of_client c) a.kex
 
-    pub server_hashed : exchange_received m Server (config_of_server s) (server_unswitched [] 1 nothing_reached) init_payload ≡ exchange_between m c s a
+    pub server_hashed : exchange_received m Server (config_of_server s) (server_unswitched [] 1 none_completed) init_payload ≡ exchange_between m c s a
     server_hashed = ap (λ r. exchange_with m Server (config_of_server s) a (version_of c.side) (written_message (KexInit (client_offer c))) r) readable.init ∙ server_same (m.share_form a.kex)
 
     -- a client doesn't ask for extensions, so none are told
@@ -351,32 +351,32 @@ module _ (m : SuiteData) (d : DecisionsData) (c : ClientData) (s : ServerData) (
     marker_unasking true = refl
     marker_unasking false = refl
 
-    none_told : told_by (config_of_server s) (server_unswitched [] 1 nothing_reached) ≡ []
+    none_told : told_by (config_of_server s) (server_unswitched [] 1 none_completed) ≡ []
     none_told =
         let asks : Bool = asks_for_extensions (written_message (KexInit (client_offer c))) in
         let marked : is_in (client_offer c).kex_algorithms (codes "ext-info-c") ≡ false =
         list_any-append (λ own. bytes_eq (codes "ext-info-c") own) c.side.kex_algorithms (own_marker Client c.side.strict) ∙ rw (sound.client_unasking, marker_unasking c.side.strict) refl in
         sym (told_unasked s.signature_algorithms asks asks refl (ap (λ r. asks_by (offer_by r)) (offers.client Mpint) ∙ marked))
 
-    pub server_answers : (before : Units) → Sits (server_setup m d s) (version_of c.side) before phase.Exchange false (server_unswitched [] 1 nothing_reached)
+    pub server_answers : (before : Units) → Sits (server_setup m d s) (version_of c.side) before phase.Exchange false (server_unswitched [] 1 none_completed)
         → reply_at (server_setup m d s) (version_of c.side) before init_payload ≡ goes (reply_payload ∷ written_message NewKeys ∷ [])
     unfolding init_reply session_between
     server_answers before sits =
-        reads (server_setup m d s) (version_of c.side) before init_payload phase.Exchange false (server_unswitched [] 1 nothing_reached) (init_in (m.share_form a.kex) (m.share a.kex c.side.random))
+        reads (server_setup m d s) (version_of c.side) before init_payload phase.Exchange false (server_unswitched [] 1 none_completed) (init_in (m.share_form a.kex) (m.share a.kex c.side.random))
         (ap is_ignorable (init_number (m.share_form a.kex) (m.share a.kex c.side.random))) sits readable.init
-        (ap (λ (n : ℕ). line_by Server phase.Exchange (server_unswitched [] 1 nothing_reached).strict false (is_waiting (server_unswitched [] 1 nothing_reached).left) n) (init_number (m.share_form a.kex) (m.share a.kex c.side.random)) ∙ leaving_line _ Server phase.Exchange (server_unswitched [] 1 nothing_reached).strict)
-        ∙ work_init (server_setup m d s) (server_unswitched [] 1 nothing_reached) (m.share_form a.kex) (m.share a.kex c.side.random)
-        ∙ ap (λ (x : ExchangeData). answered_by m d (config_of_server s) (server_unswitched [] 1 nothing_reached) x (answer_with m Server (config_of_server s) a (Ok (init_in (m.share_form a.kex) (m.share a.kex c.side.random))))) (server_same (m.share_form a.kex))
-        ∙ ap (λ (o : Option ResponseData). answered_by m d (config_of_server s) (server_unswitched [] 1 nothing_reached) (exchange_between m c s a) o) (init_answer m Server (config_of_server s) a (m.share_form a.kex) (m.share a.kex c.side.random) ∙ responded)
-        ∙ ap (signed_reply (config_of_server s) (server_unswitched [] 1 nothing_reached) (exchange_between m c s a)) (signed_held m d 0 a.host_key (secret_of s.host_keys a.host_key) (session_between m c s a) (understood.host_key_held a chosen))
+        (ap (λ (n : ℕ). disposition_by Server phase.Exchange (server_unswitched [] 1 none_completed).strict false (is_waiting (server_unswitched [] 1 none_completed).left) n) (init_number (m.share_form a.kex) (m.share a.kex c.side.random)) ∙ leaving_line _ Server phase.Exchange (server_unswitched [] 1 none_completed).strict)
+        ∙ work_init (server_setup m d s) (server_unswitched [] 1 none_completed) (m.share_form a.kex) (m.share a.kex c.side.random)
+        ∙ ap (λ (x : ExchangeData). answered_by m d (config_of_server s) (server_unswitched [] 1 none_completed) x (answer_with m Server (config_of_server s) a (Ok (init_in (m.share_form a.kex) (m.share a.kex c.side.random))))) (server_same (m.share_form a.kex))
+        ∙ ap (λ (o : Option ResponseData). answered_by m d (config_of_server s) (server_unswitched [] 1 none_completed) (exchange_between m c s a) o) (init_answer m Server (config_of_server s) a (m.share_form a.kex) (m.share a.kex c.side.random) ∙ responded)
+        ∙ ap (signed_reply (config_of_server s) (server_unswitched [] 1 none_completed) (exchange_between m c s a)) (signed_held m d 0 a.host_key (secret_of s.host_keys a.host_key) (session_between m c s a) (compatible.host_key_held a chosen))
         ∙ ap (λ (told : Units). goes (reply_payload ∷ written_message NewKeys ∷ told)) none_told
 
     -- a wrong guess
-    pub server_drops : (payload : List ℕ) → kind payload ≡ 30 → (before : Units) → Sits (server_setup m d s) (version_of c.side) before phase.Exchange true (server_unswitched [] 1 nothing_reached)
-        → (reply_at (server_setup m d s) (version_of c.side) before payload ≡ goes []) × Sits (server_setup m d s) (version_of c.side) (before ++ payload ∷ []) phase.Exchange false (server_unswitched [] 1 nothing_reached)
+    pub server_drops : (payload : List ℕ) → message_number payload ≡ 30 → (before : Units) → Sits (server_setup m d s) (version_of c.side) before phase.Exchange true (server_unswitched [] 1 none_completed)
+        → (reply_at (server_setup m d s) (version_of c.side) before payload ≡ goes []) × Sits (server_setup m d s) (version_of c.side) (before ++ payload ∷ []) phase.Exchange false (server_unswitched [] 1 none_completed)
     server_drops payload is before sits = (
-      drops (server_setup m d s) (version_of c.side) before payload phase.Exchange true (server_unswitched [] 1 nothing_reached) sits (ap (λ (n : ℕ). line_by Server phase.Exchange (server_unswitched [] 1 nothing_reached).strict true (is_waiting (server_unswitched [] 1 nothing_reached).left) n) is ∙ drops_line _ (server_unswitched [] 1 nothing_reached).strict),
-      goes_dropped (server_setup m d s) (version_of c.side) before payload phase.Exchange (server_unswitched [] 1 nothing_reached) sits (ap (λ (n : ℕ). n == 1) is),
+      drops (server_setup m d s) (version_of c.side) before payload phase.Exchange true (server_unswitched [] 1 none_completed) sits (ap (λ (n : ℕ). disposition_by Server phase.Exchange (server_unswitched [] 1 none_completed).strict true (is_waiting (server_unswitched [] 1 none_completed).left) n) is ∙ drops_line _ (server_unswitched [] 1 none_completed).strict),
+      goes_dropped (server_setup m d s) (version_of c.side) before payload phase.Exchange (server_unswitched [] 1 none_completed) sits (ap (λ (n : ℕ). n == 1) is),
     )
 
     -- AUTHENTICATION: the client
@@ -437,7 +437,7 @@ module _ (m : SuiteData) (d : DecisionsData) (c : ClientData) (s : ServerData) (
         (leaving_line _ Client phase.Auth (client_view session (r ∷ later)).strict)
 
     -- the server
-    pub server_accepts : (before : Units) (session : List ℕ) (n : ℕ) (g : ReachedData) → Sits (server_setup m d s) (version_of c.side) before phase.Service false (server_view session n g)
+    pub server_accepts : (before : Units) (session : List ℕ) (n : ℕ) (g : CompletedMethodsData) → Sits (server_setup m d s) (version_of c.side) before phase.Service false (server_view session n g)
         → (reply_at (server_setup m d s) (version_of c.side) before (written_message (ServiceRequest userauth)) ≡ goes (written_message (ServiceAccept userauth) ∷ banner_by s.banner))
         × Sits (server_setup m d s) (version_of c.side) (before ++ written_message (ServiceRequest userauth) ∷ []) phase.Auth false (server_view session n g)
     unfolding work
@@ -447,12 +447,12 @@ module _ (m : SuiteData) (d : DecisionsData) (c : ClientData) (s : ServerData) (
       goes_leaving (server_setup m d s) (version_of c.side) before (written_message (ServiceRequest userauth)) phase.Service (server_view session n g) (ServiceRequest userauth) sits refl (service_read Mpint) refl,
     )
 
-    pub server_asked_for : (before : Units) (n i : ℕ) (g : ReachedData) (r : AttemptData) → slice_get (offered m d s c.plan) i ≡ Some r
+    pub server_asked_for : (before : Units) (n i : ℕ) (g : CompletedMethodsData) (r : AttemptData) → slice_get (offered m d s c.plan) i ≡ Some r
         → Sits (server_setup m d s) (version_of c.side) before phase.Auth false (server_view (session_between m c s a) n g)
         → (reply_at (server_setup m d s) (version_of c.side) before (held_request m (session_between m c s a) r)
         ≡ request_reply m d (config_of_server s) (server_view (session_between m c s a) n g) r.user r.service (held_method m (session_between m c s a) r.user r.service r.proving))
         × Sits (server_setup m d s) (version_of c.side) (before ++ held_request m (session_between m c s a) r ∷ []) phase.Auth false
-        (server_view (session_between m c s a) (n + 1) (reached_after_one g (tried_with r.user r.service (held_method m (session_between m c s a) r.user r.service r.proving)
+        (server_view (session_between m c s a) (n + 1) (completed_after_one g (tried_with r.user r.service (held_method m (session_between m c s a) r.user r.service r.proving)
         (is_successful_at m d (config_of_server s) (session_between m c s a) n r.user r.service (held_method m (session_between m c s a) r.user r.service r.proving)))))
     unfolding work
     server_asked_for before n i g r at sits = (

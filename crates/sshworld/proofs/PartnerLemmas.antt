@@ -47,11 +47,11 @@ module _ (laws : Laws) (m : SuiteData) (d : DecisionsData) (own their : Partner)
   received_none : (node opposite : NodeData) → node.used ≡ 0 → (a : HasHistory (partner_setup m d own) node.end (take node.used opposite.sent) node.sent)
       → IsPrefix a.units (stream_of their) × (a.refusal ≡ None)
   received_none node opposite none a =
-      let parsers_of = parsers m own.role own.party in
-      let received : Received (parsers m own.role own.party) [] a.units a.sizes a.rest a.refusal
-      = subst (λ (k : ℕ). Received (parsers m own.role own.party) (take k opposite.sent) a.units a.sizes a.rest a.refusal) none a.history.received in
+      let parsers_of = parsers m own.role own.config in
+      let received : Received (parsers m own.role own.config) [] a.units a.sizes a.rest a.refusal
+      = subst (λ (k : ℕ). Received (parsers m own.role own.config) (take k opposite.sent) a.units a.sizes a.rest a.refusal) none a.history.received in
       let same : Same a.units [] a.rest [] a.refusal None
-      = laws.one (parsers m own.role own.party) [] a.units [] a.sizes [] a.rest [] a.refusal None received (laws.nothing (parsers m own.role own.party) (laws.parsers m own.role own.party)) in
+      = laws.one (parsers m own.role own.config) [] a.units [] a.sizes [] a.rest [] a.refusal None received (laws.nothing (parsers m own.role own.config) (laws.parsers m own.role own.config)) in
       (record { rest = stream_of their; whole_is = ap (λ (q : Units). q ++ stream_of their) (sym same.same_units) }, same.same_refusal)
 
   begins_at : (node opposite : NodeData) → node.used ≡ 0 → NodeReplies (partner_setup m d own) node opposite → OnCourse m d own their node opposite
@@ -77,17 +77,17 @@ module _ (m : SuiteData) (d : DecisionsData) (own their : Partner) (receives : R
 module _ (laws : Laws) (m : SuiteData) (d : DecisionsData) (lawful : IsLawful m) (own their : Partner) (receives : ReceivesCourse m d own their) (old opposite : NodeData)
     (on : OnCourse m d their own opposite old) (had : old.end ≢ Failed fault.Memory) (other_had : opposite.end ≢ Failed fault.Memory)
     (b : HasHistory (partner_setup m d their) opposite.end (take opposite.used old.sent) opposite.sent) where
-  pub receives_prefix : (received more : List ℕ) (us : Units) (ns left : List ℕ) (r : Option Refusal) → opposite.sent ≡ received ++ more → Received (parsers m own.role own.party) received us ns left r
-      → Linked us (their.party.version ∷ b.answers) r
-  receives_prefix = received_prefix laws m d lawful own.role their.role own.party their.party (payloads_of own) (payloads_of their) receives.received b.units b.answers b.sizes b.rest (take opposite.used old.sent) opposite.sent b.refusal opposite.end
+  pub receives_prefix : (received more : List ℕ) (us : Units) (ns left : List ℕ) (r : Option Refusal) → opposite.sent ≡ received ++ more → Received (parsers m own.role own.config) received us ns left r
+      → Linked us (their.config.version ∷ b.answers) r
+  receives_prefix = received_prefix laws m d lawful own.role their.role own.config their.config (payloads_of own) (payloads_of their) receives.received b.units b.answers b.sizes b.rest (take opposite.used old.sent) opposite.sent b.refusal opposite.end
       b.history (on.prefix other_had had b).0 (sent_prefix_of m d their own receives opposite old on other_had had b)
 
-  pub receives_all : (us : Units) (ns left : List ℕ) (r : Option Refusal) → Received (parsers m own.role own.party) opposite.sent us ns left r → ReceivedAll us (their.party.version ∷ b.answers) left r
-  receives_all = received_all laws m d lawful own.role their.role own.party their.party (payloads_of own) (payloads_of their) receives.received b.units b.answers b.sizes b.rest (take opposite.used old.sent) opposite.sent b.refusal opposite.end
+  pub receives_all : (us : Units) (ns left : List ℕ) (r : Option Refusal) → Received (parsers m own.role own.config) opposite.sent us ns left r → ReceivedAll us (their.config.version ∷ b.answers) left r
+  receives_all = received_all laws m d lawful own.role their.role own.config their.config (payloads_of own) (payloads_of their) receives.received b.units b.answers b.sizes b.rest (take opposite.used old.sent) opposite.sent b.refusal opposite.end
       b.history (on.prefix other_had had b).0 (sent_prefix_of m d their own receives opposite old on other_had had b)
 
-  pub stream_prefix : IsPrefix (their.party.version ∷ b.answers) (stream_of their)
-  stream_prefix = sent_prefix their.part b.units b.answers opposite.end (in_part m d their own receives opposite old on other_had had b) their.party.version
+  pub stream_prefix : IsPrefix (their.config.version ∷ b.answers) (stream_of their)
+  stream_prefix = sent_prefix their.part b.units b.answers opposite.end (in_part m d their own receives opposite old on other_had had b) their.config.version
 
 module _ (laws : Laws) (m : SuiteData) (d : DecisionsData) (lawful : IsLawful m) (own their : Partner) (receives : ReceivesCourse m d own their) (old new opposite : NodeData)
     (on : OnCourse m d their own opposite old) (had : old.end ≢ Failed fault.Memory) where
@@ -99,7 +99,7 @@ module _ (laws : Laws) (m : SuiteData) (d : DecisionsData) (lawful : IsLawful m)
         let b = on.replies.replies other_had in
         let l = receives_prefix laws m d lawful own their receives old opposite on had other_had b (take new.used opposite.sent) (drop new.used opposite.sent) a.units a.sizes a.rest a.refusal
         (sym (take-append-drop new.used opposite.sent)) a.history.received in
-        (prefix-through a.units (their.party.version ∷ b.answers) (stream_of their) l.prefix (stream_prefix laws m d lawful own their receives old opposite on had other_had b), l.no_refusal);
+        (prefix-through a.units (their.config.version ∷ b.answers) (stream_of their) l.prefix (stream_prefix laws m d lawful own their receives old opposite on had other_had b), l.no_refusal);
   }
 
 module _ (m : SuiteData) (d : DecisionsData) (own their : Partner) (old new opposite : NodeData) (on : OnCourse m d their own opposite old) (more : IsPrefix old.sent new.sent) where
@@ -137,15 +137,15 @@ module _ (laws : Laws) (m : SuiteData) (d : DecisionsData) (lawful : IsLawful m)
     (a : HasHistory (partner_setup m d own) node.end (take node.used opposite.sent) node.sent)
     (b : HasHistory (partner_setup m d their) opposite.end (take opposite.used node.sent) opposite.sent) where
   -- what one has received is a prefix of what the other has sent
-  pub received_of : IsPrefix a.units (their.party.version ∷ b.answers)
+  pub received_of : IsPrefix a.units (their.config.version ∷ b.answers)
   received_of = (receives_prefix laws m d lawful own their receives node opposite on.their_side had other_had b (take node.used opposite.sent) (drop node.used opposite.sent) a.units a.sizes a.rest a.refusal
       (sym (take-append-drop node.used opposite.sent)) a.history.received).prefix
 
   -- and all of it, where it is open and nothing waits for it
-  pub all_received_of : node.end ≡ Open → waiting node opposite ≡ 0 → a.units ≡ their.party.version ∷ b.answers
+  pub all_received_of : node.end ≡ Open → waiting node opposite ≡ 0 → a.units ≡ their.config.version ∷ b.answers
   all_received_of o w =
       let r = on.own_side.replies in
       let none : length opposite.sent - node.moved ≡ 0 = sym (ap (λ (e : EndData). waiting_at e (length opposite.sent) node.moved) o) ∙ w in
       let whole : take node.used opposite.sent ≡ opposite.sent = take_all node.used opposite.sent (omega (arith, none, r.all_used o, r.moved_within)) in
       (receives_all laws m d lawful own their receives node opposite on.their_side had other_had b a.units a.sizes a.rest a.refusal
-      (subst (λ (h : List ℕ). Received (parsers m own.role own.party) h a.units a.sizes a.rest a.refusal) whole a.history.received)).all_units
+      (subst (λ (h : List ℕ). Received (parsers m own.role own.config) h a.units a.sizes a.rest a.refusal) whole a.history.received)).all_units

@@ -10,10 +10,10 @@ use Rattle.sshcore.specs.ConfigParts.{AttemptData, ByKey, ByNothing, ByPassword,
 use Rattle.sshcore.specs.ConfigRules.{IsListed}
 use Rattle.sshcore.specs.EndpointParts.{DecisionsData}
 use Rattle.sshcore.specs.Plan.{after_query, asks, proving_name, unasked}
-use Rattle.sshcore.specs.Reached.{Tried, are_reached, is_complete, nothing_reached, reached_after, reached_after_one}
-use Rattle.sshcore.proofs.PlanLemmas.{reached_push}
-use Rattle.sshcore.proofs.ReachedLemmas.{complete_is}
-use Rattle.sshworld.specs.JudgedView.{IsSoFar, progress_reached, tried_as}
+use Rattle.sshcore.specs.CompletedMethods.{Tried, are_completed, completed_after, completed_after_one, is_complete, none_completed}
+use Rattle.sshcore.proofs.PlanLemmas.{completed_push}
+use Rattle.sshcore.proofs.CompletedMethodsLemmas.{complete_is}
+use Rattle.sshworld.specs.JudgedView.{IsSoFar, progress_completed, tried_as}
 use Rattle.sshworld.specs.Judging.{is_proved, is_successful, is_usable, proved_by}
 use Rattle.sshworld.specs.Offered.{is_confirmed, requests_for}
 use Rattle.sshworld.specs.Verdicts.{Limit, Success, Unknown, ends_by, is_accepted, tried_by, tried_of}
@@ -33,7 +33,7 @@ is_itself (ByKey algorithm secret true) h = absurd (cc (h))
 is_itself (ByKey algorithm secret false) h = refl
 
 module _ (m : SuiteData) (d : DecisionsData) (s : ServerData) (required : AllByRecursion IsListed s.required) (old new : Progress) (x : AttemptData) (successful : Bool)
-    (counted : new.requests ≡ old.requests + 1) (reached : progress_reached new ≡ reached_after_one (progress_reached old) (tried_as x successful))
+    (counted : new.requests ≡ old.requests + 1) (completed : progress_completed new ≡ completed_after_one (progress_completed old) (tried_as x successful))
     (made : List AttemptData) (r : AttemptData) (so_far : IsSoFar m d s made old) (same : after_query r ≡ after_query x) (is : successful ≡ is_successful m d s (length made + 1) r) where
   abbrev before : List Tried
   before = tried_of m d s made
@@ -42,7 +42,7 @@ module _ (m : SuiteData) (d : DecisionsData) (s : ServerData) (required : AllByR
   this = tried_by m d s made r
 
   abbrev done : Bool
-  done = successful && is_complete s.required (progress_reached new)
+  done = successful && is_complete s.required (progress_completed new)
 
   name_is : proving_name x.proving ≡ proving_name r.proving
   name_is = sym (named_itself x.proving) ∙ (ap (λ (a : AttemptData). proving_name a.proving) (sym same) ∙ named_itself r.proving)
@@ -57,8 +57,8 @@ module _ (m : SuiteData) (d : DecisionsData) (s : ServerData) (required : AllByR
   now_is : tried_of m d s (made ++ r ∷ []) ≡ before ++ this ∷ []
   now_is = flat-push (λ b a. tried_by m d s b a ∷ []) [] made r
 
-  kept_is : progress_reached new ≡ reached_after_one (reached_after nothing_reached before) this
-  kept_is = reached ∙ (ap (λ g. reached_after_one g (tried_as x successful)) so_far.reached ∙ ap (reached_after_one (reached_after nothing_reached before)) this_is)
+  kept_is : progress_completed new ≡ completed_after_one (completed_after none_completed before) this
+  kept_is = completed ∙ (ap (λ g. completed_after_one g (tried_as x successful)) so_far.completed ∙ ap (completed_after_one (completed_after none_completed before)) this_is)
 
   number_is : new.requests ≡ length made + 1
   number_is = counted ∙ ap (λ (n : ℕ). n + 1) so_far.counted
@@ -67,21 +67,21 @@ module _ (m : SuiteData) (d : DecisionsData) (s : ServerData) (required : AllByR
   pub one_more : IsSoFar m d s (made ++ r ∷ []) new
   one_more = record {
     counted = number_is ∙ sym (length-append made (r ∷ []));
-    reached = kept_is ∙ (sym (reached_push nothing_reached before (this ∷ [])) ∙ ap (reached_after nothing_reached) (sym now_is));
+    completed = kept_is ∙ (sym (completed_push none_completed before (this ∷ [])) ∙ ap (completed_after none_completed) (sym now_is));
   }
 
-  complete : successful ≡ true → is_complete s.required (progress_reached new) ≡ are_reached s.required r.user r.service (tried_of m d s (made ++ r ∷ []))
+  complete : successful ≡ true → is_complete s.required (progress_completed new) ≡ are_completed s.required r.user r.service (tried_of m d s (made ++ r ∷ []))
   complete e =
       let by_name : this.successful ≡ Some (proving_name r.proving) = ap (λ (b : Bool). if b then Some (proving_name r.proving) else None) (sym is ∙ e) in
       ap (is_complete s.required) kept_is
-      ∙ (complete_is before this (proving_name r.proving) by_name s.required required ∙ ap (are_reached s.required r.user r.service) (sym now_is))
+      ∙ (complete_is before this (proving_name r.proving) by_name s.required required ∙ ap (are_completed s.required r.user r.service) (sym now_is))
 
   accepted_user : is_accepted m d s made r ≡ done
   accepted_user = by successful refl
     where
-      by : (b : Bool) → successful ≡ b → is_accepted m d s made r ≡ (b && is_complete s.required (progress_reached new))
-      by true e = ap (λ (b : Bool). b && are_reached s.required r.user r.service (tried_of m d s (made ++ r ∷ []))) (sym is ∙ e) ∙ sym (complete e)
-      by false e = ap (λ (b : Bool). b && are_reached s.required r.user r.service (tried_of m d s (made ++ r ∷ []))) (sym is ∙ e)
+      by : (b : Bool) → successful ≡ b → is_accepted m d s made r ≡ (b && is_complete s.required (progress_completed new))
+      by true e = ap (λ (b : Bool). b && are_completed s.required r.user r.service (tried_of m d s (made ++ r ∷ []))) (sym is ∙ e) ∙ sym (complete e)
+      by false e = ap (λ (b : Bool). b && are_completed s.required r.user r.service (tried_of m d s (made ++ r ∷ []))) (sym is ∙ e)
 
   -- a successful request is no query
   request_is : successful ≡ true → r ≡ after_query x
@@ -98,7 +98,7 @@ module _ (m : SuiteData) (d : DecisionsData) (s : ServerData) (required : AllByR
         ∙ (ap (λ (b : Bool). if b then Some (Success r) else if length made + 1 == s.tries then Some Limit else None) accepted_user
         ∙ ap (λ (n : ℕ). if done then Some (Success r) else if n == s.tries then Some Limit else None) (sym number_is))
 
-    pub at_success : successful ≡ true → is_complete s.required (progress_reached new) ≡ true → Some (Success (after_query x)) ≡ ends_by m d s made r
+    pub at_success : successful ≡ true → is_complete s.required (progress_completed new) ≡ true → Some (Success (after_query x)) ≡ ends_by m d s made r
     at_success e all =
         let is_done : done ≡ true = rw (e, all) refl in
         sym (ends ∙ (ap (λ (b : Bool). if b then Some (Success r) else if new.requests == s.tries then Some Limit else None) is_done

@@ -11,12 +11,12 @@ use Rattle.sshpacket.specs.Stream.{Units}
 use Rattle.sshpacket.specs.Suite.{SuiteData}
 use Rattle.sshpacket.proofs.Places.{prefix-all}
 use Rattle.sshcore.specs.declared.end.Fault.TheVariants as fault
-use Rattle.sshcore.specs.declared.table.Phase.{Phase}
-use Rattle.sshcore.specs.declared.table.Phase.TheVariants as phase
+use Rattle.sshcore.specs.declared.phase_table.Phase.{Phase}
+use Rattle.sshcore.specs.declared.phase_table.Phase.TheVariants as phase
 use Rattle.sshcore.specs.ConfigParts.{ClientData, ServerData, client_offer, server_offer, version_of}
 use Rattle.sshcore.specs.EndData.{Closed, EndData, Failed, goes}
 use Rattle.sshcore.specs.EndpointParts.{DecisionsData, config_of_client, config_of_server, server_setup}
-use Rattle.sshcore.specs.Reached.{nothing_reached}
+use Rattle.sshcore.specs.CompletedMethods.{none_completed}
 use Rattle.sshcore.specs.Standing.{Sits}
 use Rattle.sshcore.specs.Work.{chosen_reply, guessed_method}
 use Rattle.sshworld.specs.Agreement.{session_between}
@@ -24,7 +24,7 @@ use Rattle.sshworld.specs.Course.{Part, client_next, client_no_choice, client_no
 use Rattle.sshworld.specs.Follows.{FollowsPart, IsAsPart, units_of}
 use Rattle.sshworld.specs.Guesses.{Guess, NoGuess, RightGuess, WrongGuess, guess_by}
 use Rattle.sshworld.specs.Outcome.{case_of_how, ends_of_case}
-use Rattle.sshworld.specs.Understood.{AreUnderstood}
+use Rattle.sshworld.specs.Compatible.{AreCompatible}
 use Rattle.sshworld.specs.Verdicts.{How, Verdict, verdict}
 use Rattle.sshworld.specs.Wording.{Wording}
 use Rattle.sshworld.specs.Wordings.{wording_with}
@@ -62,7 +62,7 @@ distrusted_1 w NoGuess = refl
 distrusted_1 w RightGuess = refl
 distrusted_1 w WrongGuess = refl
 
-module _ (m : SuiteData) (d : DecisionsData) (c : ClientData) (s : ServerData) (understood : AreUnderstood m d c s) (sound : AreSound c s) (offers : AreOffersRead c s) where
+module _ (m : SuiteData) (d : DecisionsData) (c : ClientData) (s : ServerData) (compatible : AreCompatible m d c s) (sound : AreSound c s) (offers : AreOffersRead c s) where
   -- a KEXINIT, whether anything is chosen or not
   server_chose : (a : AlgorithmsData) → choice m (client_offer c) (server_offer s) ≡ Ok a → chosen_reply m Server (config_of_server s) (client_offer c) (choice m (client_offer c) (server_offer s)) ≡ goes []
   server_chose a chosen = ap (λ r. chosen_reply m Server (config_of_server s) (client_offer c) r) chosen
@@ -75,10 +75,10 @@ module _ (m : SuiteData) (d : DecisionsData) (c : ClientData) (s : ServerData) (
     v = verdict m d c s
 
     abbrev pub sits : Units → Phase → Bool → List ℕ → Type 0
-    sits before q due session = Sits (server_setup m d s) (version_of c.side) before q due (server_unswitched m d c s understood sound offers a chosen readable session 1 nothing_reached)
+    sits before q due session = Sits (server_setup m d s) (version_of c.side) before q due (server_unswitched m d c s compatible sound offers a chosen readable session 1 none_completed)
 
     pub begun : (b : Bool) → (c.guess && not (is_right_guess (client_offer c) (server_offer s))) ≡ b → sits (w.client_offer ∷ []) phase.Exchange b []
-    begun b e = subst (λ (due : Bool). sits (w.client_offer ∷ []) phase.Exchange due []) e (server_begins m d c s understood sound offers a chosen readable)
+    begun b e = subst (λ (due : Bool). sits (w.client_offer ∷ []) phase.Exchange due []) e (server_begins m d c s compatible sound offers a chosen readable)
 
     -- where requests are made
     module _ (guess : Guess) (end : EndData) (final : (how : How) → (verdict m d c s).how ≡ how → end ≡ (ends_of_case (case_of_how m c s a how)).server) where
@@ -91,14 +91,14 @@ module _ (m : SuiteData) (d : DecisionsData) (c : ClientData) (s : ServerData) (
       asked_tail : (pre : Units) → sits pre phase.Exchange false [] → length pre ≡ 1 + length (unanswered guess)
           → EachPlace Q (version_of c.side ∷ pre) (w.init ∷ w.new_keys ∷ w.service_request ∷ from (client_next w v) 0 (suc v.requests))
       asked_tail pre here at =
-          let one = server_exchanges m d c s understood sound offers a chosen readable pre here in
+          let one = server_exchanges m d c s compatible sound offers a chosen readable pre here in
           let two = switches (server_setup m d s) (version_of c.side) (pre ++ w.init ∷ []) _ one in
-          let three = server_accepts m d c s understood sound offers a chosen readable ((pre ++ w.init ∷ []) ++ w.new_keys ∷ []) (session_between m c s a) 1 nothing_reached two in
+          let three = server_accepts m d c s compatible sound offers a chosen readable ((pre ++ w.init ∷ []) ++ w.new_keys ∷ []) (session_between m c s a) 1 none_completed two in
           let l1 = length-append pre (w.init ∷ []) in
           let l2 = length-append (pre ++ w.init ∷ []) (w.new_keys ∷ []) in
           let l3 = length-append ((pre ++ w.init ∷ []) ++ w.new_keys ∷ []) (w.service_request ∷ []) in
           let made = counted_offered m d c s in (
-            as_open (server_setup m d s) p (version_of c.side ∷ pre) w.init (w.reply ∷ w.new_keys ∷ []) (server_answers m d c s understood sound offers a chosen readable pre here)
+            as_open (server_setup m d s) p (version_of c.side ∷ pre) w.init (w.reply ∷ w.new_keys ∷ []) (server_answers m d c s compatible sound offers a chosen readable pre here)
                 (ap (λ (n : ℕ). p.group n) (let e : suc (length pre) ≡ 2 + length (unanswered guess) = omega (arith, at) in e) ∙ group_0 w guess (server_next w v)) (omega (arith, at)),
             (
               as_open (server_setup m d s) p (version_of c.side ∷ (pre ++ w.init ∷ [])) w.new_keys [] (switched (server_setup m d s) (version_of c.side) (pre ++ w.init ∷ []) _ one)
@@ -106,7 +106,7 @@ module _ (m : SuiteData) (d : DecisionsData) (c : ClientData) (s : ServerData) (
               (
                 as_open (server_setup m d s) p (version_of c.side ∷ ((pre ++ w.init ∷ []) ++ w.new_keys ∷ [])) w.service_request (w.service_accept ∷ w.banner) three.0
                     (ap (λ (n : ℕ). p.group n) (let e : suc (length ((pre ++ w.init ∷ []) ++ w.new_keys ∷ [])) ≡ 4 + length (unanswered guess) = omega (arith, at, l1, l2) in e) ∙ group_2 w guess (server_next w v)) (omega (arith, at, l1, l2, some_received v.how v.requests made.none_left)),
-                server_loop m d c s understood sound offers a chosen readable guess end final v.requests 0 (omega arith) made.most (((pre ++ w.init ∷ []) ++ w.new_keys ∷ []) ++ w.service_request ∷ []) three.1 (omega (arith, at, l1, l2, l3)),
+                server_loop m d c s compatible sound offers a chosen readable guess end final v.requests 0 (omega arith) made.most (((pre ++ w.init ∷ []) ++ w.new_keys ∷ []) ++ w.service_request ∷ []) three.1 (omega (arith, at, l1, l2, l3)),
               ),
             ),
           )
@@ -116,22 +116,22 @@ module _ (m : SuiteData) (d : DecisionsData) (c : ClientData) (s : ServerData) (
     asked_places end final false r eg er = (
       as_open (server_setup m d s) (server_requests w NoGuess v end) [] (version_of c.side) [] refl refl (omega arith),
       (
-        as_open (server_setup m d s) (server_requests w NoGuess v end) (version_of c.side ∷ []) w.client_offer [] (server_first m d c s understood sound offers ∙ server_chose a chosen) refl (omega arith),
+        as_open (server_setup m d s) (server_requests w NoGuess v end) (version_of c.side ∷ []) w.client_offer [] (server_first m d c s compatible sound offers ∙ server_chose a chosen) refl (omega arith),
         asked_tail NoGuess end final (w.client_offer ∷ []) (begun false (ap (λ (b : Bool). b && not (is_right_guess (client_offer c) (server_offer s))) eg)) refl,
       ),
     )
     asked_places end final true true eg er = (
       as_open (server_setup m d s) (server_requests w RightGuess v end) [] (version_of c.side) [] refl refl (omega arith),
       (
-        as_open (server_setup m d s) (server_requests w RightGuess v end) (version_of c.side ∷ []) w.client_offer [] (server_first m d c s understood sound offers ∙ server_chose a chosen) refl (omega arith),
+        as_open (server_setup m d s) (server_requests w RightGuess v end) (version_of c.side ∷ []) w.client_offer [] (server_first m d c s compatible sound offers ∙ server_chose a chosen) refl (omega arith),
         asked_tail RightGuess end final (w.client_offer ∷ []) (begun false (ap (λ (b : Bool). b && not (is_right_guess (client_offer c) (server_offer s))) eg ∙ ap (λ (b : Bool). true && not b) er)) refl,
       ),
     )
     asked_places end final true false eg er =
-        let drop = server_drops m d c s understood sound offers a chosen readable w.guess (init_kind m (config_of_client c) (guessed_method (config_of_client c))) (w.client_offer ∷ []) (begun true (ap (λ (b : Bool). b && not (is_right_guess (client_offer c) (server_offer s))) eg ∙ ap (λ (b : Bool). true && not b) er)) in (
+        let drop = server_drops m d c s compatible sound offers a chosen readable w.guess (init_kind m (config_of_client c) (guessed_method (config_of_client c))) (w.client_offer ∷ []) (begun true (ap (λ (b : Bool). b && not (is_right_guess (client_offer c) (server_offer s))) eg ∙ ap (λ (b : Bool). true && not b) er)) in (
           as_open (server_setup m d s) (server_requests w WrongGuess v end) [] (version_of c.side) [] refl refl (omega arith),
           (
-            as_open (server_setup m d s) (server_requests w WrongGuess v end) (version_of c.side ∷ []) w.client_offer [] (server_first m d c s understood sound offers ∙ server_chose a chosen) refl (omega arith),
+            as_open (server_setup m d s) (server_requests w WrongGuess v end) (version_of c.side ∷ []) w.client_offer [] (server_first m d c s compatible sound offers ∙ server_chose a chosen) refl (omega arith),
             (
               as_open (server_setup m d s) (server_requests w WrongGuess v end) (version_of c.side ∷ w.client_offer ∷ []) w.guess [] drop.0 refl (omega arith),
               asked_tail WrongGuess end final (w.client_offer ∷ w.guess ∷ []) drop.1 refl,
@@ -175,9 +175,9 @@ module _ (m : SuiteData) (d : DecisionsData) (c : ClientData) (s : ServerData) (
       refused_tail : (pre : Units) → sits pre phase.Exchange false [] → length pre ≡ 1 + length (unanswered guess)
           → EachPlace (IsAsPart (server_setup m d s) refused_part) (version_of c.side ∷ pre) (w.init ∷ w.disconnect 9 ∷ [])
       refused_tail pre here at =
-          let one = server_exchanges m d c s understood sound offers a chosen readable pre here in
+          let one = server_exchanges m d c s compatible sound offers a chosen readable pre here in
           let l1 = length-append pre (w.init ∷ []) in (
-            as_open (server_setup m d s) refused_part (version_of c.side ∷ pre) w.init (w.reply ∷ w.new_keys ∷ []) (server_answers m d c s understood sound offers a chosen readable pre here)
+            as_open (server_setup m d s) refused_part (version_of c.side ∷ pre) w.init (w.reply ∷ w.new_keys ∷ []) (server_answers m d c s compatible sound offers a chosen readable pre here)
                 (ap (λ (n : ℕ). refused_part.group n) (let e : suc (length pre) ≡ 2 + length (unanswered guess) = omega (arith, at) in e) ∙ distrusted_0 w guess) (omega (arith, at)),
             (
               as_last (server_setup m d s) refused_part (version_of c.side ∷ (pre ++ w.init ∷ [])) (w.disconnect 9) [] (Closed 9)
@@ -193,22 +193,22 @@ module _ (m : SuiteData) (d : DecisionsData) (c : ClientData) (s : ServerData) (
     refused_places end final false r eg er = (
       as_open (server_setup m d s) (server_no_trust w NoGuess end) [] (version_of c.side) [] refl refl (omega arith),
       (
-        as_open (server_setup m d s) (server_no_trust w NoGuess end) (version_of c.side ∷ []) w.client_offer [] (server_first m d c s understood sound offers ∙ server_chose a chosen) refl (omega arith),
+        as_open (server_setup m d s) (server_no_trust w NoGuess end) (version_of c.side ∷ []) w.client_offer [] (server_first m d c s compatible sound offers ∙ server_chose a chosen) refl (omega arith),
         refused_tail NoGuess end final (w.client_offer ∷ []) (begun false (ap (λ (b : Bool). b && not (is_right_guess (client_offer c) (server_offer s))) eg)) refl,
       ),
     )
     refused_places end final true true eg er = (
       as_open (server_setup m d s) (server_no_trust w RightGuess end) [] (version_of c.side) [] refl refl (omega arith),
       (
-        as_open (server_setup m d s) (server_no_trust w RightGuess end) (version_of c.side ∷ []) w.client_offer [] (server_first m d c s understood sound offers ∙ server_chose a chosen) refl (omega arith),
+        as_open (server_setup m d s) (server_no_trust w RightGuess end) (version_of c.side ∷ []) w.client_offer [] (server_first m d c s compatible sound offers ∙ server_chose a chosen) refl (omega arith),
         refused_tail RightGuess end final (w.client_offer ∷ []) (begun false (ap (λ (b : Bool). b && not (is_right_guess (client_offer c) (server_offer s))) eg ∙ ap (λ (b : Bool). true && not b) er)) refl,
       ),
     )
     refused_places end final true false eg er =
-        let drop = server_drops m d c s understood sound offers a chosen readable w.guess (init_kind m (config_of_client c) (guessed_method (config_of_client c))) (w.client_offer ∷ []) (begun true (ap (λ (b : Bool). b && not (is_right_guess (client_offer c) (server_offer s))) eg ∙ ap (λ (b : Bool). true && not b) er)) in (
+        let drop = server_drops m d c s compatible sound offers a chosen readable w.guess (init_kind m (config_of_client c) (guessed_method (config_of_client c))) (w.client_offer ∷ []) (begun true (ap (λ (b : Bool). b && not (is_right_guess (client_offer c) (server_offer s))) eg ∙ ap (λ (b : Bool). true && not b) er)) in (
           as_open (server_setup m d s) (server_no_trust w WrongGuess end) [] (version_of c.side) [] refl refl (omega arith),
           (
-            as_open (server_setup m d s) (server_no_trust w WrongGuess end) (version_of c.side ∷ []) w.client_offer [] (server_first m d c s understood sound offers ∙ server_chose a chosen) refl (omega arith),
+            as_open (server_setup m d s) (server_no_trust w WrongGuess end) (version_of c.side ∷ []) w.client_offer [] (server_first m d c s compatible sound offers ∙ server_chose a chosen) refl (omega arith),
             (
               as_open (server_setup m d s) (server_no_trust w WrongGuess end) (version_of c.side ∷ w.client_offer ∷ []) w.guess [] drop.0 refl (omega arith),
               refused_tail WrongGuess end final (w.client_offer ∷ w.guess ∷ []) drop.1 refl,
@@ -242,7 +242,7 @@ module _ (m : SuiteData) (d : DecisionsData) (c : ClientData) (s : ServerData) (
               as_open (server_setup m d s) (server_no_choice u end) [] (version_of c.side) [] refl refl (omega arith),
               (
                 as_last (server_setup m d s) (server_no_choice u end) (version_of c.side ∷ []) u.client_offer (u.disconnect 3 ∷ []) (Failed (fault.NoCommon f))
-                    (server_first m d c s understood sound offers ∙ ap (λ r. chosen_reply m Server (config_of_server s) (client_offer c) r) chosen) refl refl final,
+                    (server_first m d c s compatible sound offers ∙ ap (λ r. chosen_reply m Server (config_of_server s) (client_offer c) r) chosen) refl refl final,
                 tt,
               ),
             );

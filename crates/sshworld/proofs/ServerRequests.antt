@@ -9,16 +9,16 @@ use Rattle.sshneg.specs.Fields.{AlgorithmsData}
 use Rattle.sshpacket.specs.Places.{EachPlace}
 use Rattle.sshpacket.specs.Stream.{Units}
 use Rattle.sshpacket.specs.Suite.{SuiteData}
-use Rattle.sshcore.specs.declared.table.Phase.TheVariants as phase
+use Rattle.sshcore.specs.declared.phase_table.Phase.TheVariants as phase
 use Rattle.sshcore.specs.ConfigParts.{AttemptData, ByKey, ByNothing, ByPassword, ClientData, CredentialData, ServerData, client_offer, server_offer, version_of}
 use Rattle.sshcore.specs.EndData.{EndData, goes}
 use Rattle.sshcore.specs.EndpointParts.{DecisionsData, config_of_server, server_setup}
 use Rattle.sshcore.specs.Plan.{unasked}
-use Rattle.sshcore.specs.Reached.{ReachedData, nothing_reached, reached_after, reached_after_one}
+use Rattle.sshcore.specs.CompletedMethods.{CompletedMethodsData, completed_after, completed_after_one, none_completed}
 use Rattle.sshcore.specs.Replies.{reply_at}
 use Rattle.sshcore.specs.Requests.{request_reply}
 use Rattle.sshcore.specs.Tries.{is_successful_at, tried_with}
-use Rattle.sshcore.proofs.PlanLemmas.{reached_push}
+use Rattle.sshcore.proofs.PlanLemmas.{completed_push}
 use Rattle.sshcore.specs.Standing.{Sits}
 use Rattle.sshworld.specs.Agreement.{session_between}
 use Rattle.sshworld.specs.Course.{Part, client_last, client_next, received_last, server_early, server_last, server_next, server_requests, unanswered}
@@ -27,7 +27,7 @@ use Rattle.sshworld.specs.Guesses.{Guess, NoGuess, RightGuess, WrongGuess}
 use Rattle.sshworld.specs.Held.{held_method, held_request}
 use Rattle.sshworld.specs.Offered.{offered}
 use Rattle.sshworld.specs.Outcome.{case_of_how, ends_of_case}
-use Rattle.sshworld.specs.Understood.{AreUnderstood, CanSign}
+use Rattle.sshworld.specs.Compatible.{AreCompatible, CanSign}
 use Rattle.sshworld.specs.Verdicts.{Exhausted, How, Limit, Success, Unknown, Verdict, ends_by, tried_by, tried_of, verdict}
 use Rattle.sshworld.specs.Wording.{Wording}
 use Rattle.sshworld.specs.Wordings.{answer_or, answer_to, request_or, wording_with}
@@ -61,7 +61,7 @@ signs_itself m r h = by r.proving h
     by (ByPassword password) h = h
     by (ByKey algorithm secret ask) h = h
 
-module _ (m : SuiteData) (d : DecisionsData) (c : ClientData) (s : ServerData) (understood : AreUnderstood m d c s) (sound : AreSound c s) (offers : AreOffersRead c s)
+module _ (m : SuiteData) (d : DecisionsData) (c : ClientData) (s : ServerData) (compatible : AreCompatible m d c s) (sound : AreSound c s) (offers : AreOffersRead c s)
     (a : AlgorithmsData) (chosen : choice m (client_offer c) (server_offer s) ≡ Ok a) (readable : IsRead m d c s a) (guess : Guess) (end : EndData)
     (final : (how : How) → (verdict m d c s).how ≡ how → end ≡ (ends_of_case (case_of_how m c s a how)).server) where
   abbrev w : Wording
@@ -76,29 +76,29 @@ module _ (m : SuiteData) (d : DecisionsData) (c : ClientData) (s : ServerData) (
   abbrev Q : Units → List ℕ → Type 0
   Q = IsAsPart (server_setup m d s) p
 
-  -- what is reached after the first j requests
-  abbrev reached : ℕ → ReachedData
-  reached j = reached_after nothing_reached (tried_of m d s (take j (offered m d s c.plan)))
+  -- what is completed after the first j requests
+  abbrev completed : ℕ → CompletedMethodsData
+  completed j = completed_after none_completed (tried_of m d s (take j (offered m d s c.plan)))
 
   abbrev sits : Units → ℕ → Type 0
-  sits before j = Sits (server_setup m d s) (version_of c.side) before phase.Auth false (server_view m d c s understood sound offers a chosen readable (session_between m c s a) (j + 1) (reached j))
+  sits before j = Sits (server_setup m d s) (version_of c.side) before phase.Auth false (server_view m d c s compatible sound offers a chosen readable (session_between m c s a) (j + 1) (completed j))
 
   abbrev named_at : (j : ℕ) (x : AttemptData) → slice_get (offered m d s c.plan) j ≡ Some x → IsTestedName x.proving
   named_at j x at = offered_each m d s (λ (r : AttemptData). IsTestedName r.proving) named_itself c.plan sound.named j x at
 
   abbrev signs_at : (j : ℕ) (x : AttemptData) → slice_get (offered m d s c.plan) j ≡ Some x → CanSign m x.proving
-  signs_at j x at = offered_each m d s (λ (r : AttemptData). CanSign m r.proving) (signs_itself m) c.plan understood.plan j x at
+  signs_at j x at = offered_each m d s (λ (r : AttemptData). CanSign m r.proving) (signs_itself m) c.plan compatible.plan j x at
 
   -- one request more
-  reached_next : (j : ℕ) (x : AttemptData) (at : slice_get (offered m d s c.plan) j ≡ Some x) → length (take j (offered m d s c.plan)) ≡ j
-      → reached_after_one (reached j) (tried_with x.user x.service (held_method m (session_between m c s a) x.user x.service x.proving)
-      (is_successful_at m d (config_of_server s) (session_between m c s a) (j + 1) x.user x.service (held_method m (session_between m c s a) x.user x.service x.proving))) ≡ reached (j + 1)
-  reached_next j x at made_is =
+  completed_next : (j : ℕ) (x : AttemptData) (at : slice_get (offered m d s c.plan) j ≡ Some x) → length (take j (offered m d s c.plan)) ≡ j
+      → completed_after_one (completed j) (tried_with x.user x.service (held_method m (session_between m c s a) x.user x.service x.proving)
+      (is_successful_at m d (config_of_server s) (session_between m c s a) (j + 1) x.user x.service (held_method m (session_between m c s a) x.user x.service x.proving))) ≡ completed (j + 1)
+  completed_next j x at made_is =
       let made : List AttemptData = take j (offered m d s c.plan) in
-      ap (reached_after_one (reached j)) (tried_same m d c s sound a (session_between m c s a) made (j + 1) x (ap (λ (n : ℕ). n + 1) (sym made_is)) (named_at j x at) (signs_at j x at))
-      ∙ (sym (reached_push nothing_reached (tried_of m d s made) (tried_by m d s made x ∷ []))
-      ∙ (ap (reached_after nothing_reached) (sym (tried_more m d c s sound a (session_between m c s a) made x))
-      ∙ ap (λ (l : List AttemptData). reached_after nothing_reached (tried_of m d s l)) (sym (take_more m d s (offered m d s c.plan) j x at))))
+      ap (completed_after_one (completed j)) (tried_same m d c s sound a (session_between m c s a) made (j + 1) x (ap (λ (n : ℕ). n + 1) (sym made_is)) (named_at j x at) (signs_at j x at))
+      ∙ (sym (completed_push none_completed (tried_of m d s made) (tried_by m d s made x ∷ []))
+      ∙ (ap (completed_after none_completed) (sym (tried_more m d c s sound a (session_between m c s a) made x))
+      ∙ ap (λ (l : List AttemptData). completed_after none_completed (tried_of m d s l)) (sym (take_more m d s (offered m d s c.plan) j x at))))
 
   group_is : (before : Units) (j : ℕ) → length before ≡ 4 + length (unanswered guess) + j → p.group (length (version_of c.side ∷ before)) ≡ server_next w v j
   group_is before j at = group_after (server_early w guess) (server_next w v) j (suc (length before)) (omega (arith, at, server_early_length w guess))
@@ -130,8 +130,8 @@ module _ (m : SuiteData) (d : DecisionsData) (c : ClientData) (s : ServerData) (
       let made : List AttemptData = take j (offered m d s c.plan) in
       let made_is : length (take j (offered m d s c.plan)) ≡ j = take_length (offered m d s c.plan) j (omega (arith, more, most)) in
       let reply : reply_at (server_setup m d s) (version_of c.side) before (held_request m (session_between m c s a) x) ≡ how_reply m d c s a (take j (offered m d s c.plan)) x (ends_by m d s (take j (offered m d s c.plan)) x) =
-      (server_asked_for m d c s understood sound offers a chosen readable before (j + 1) j (reached j) x get here).0
-      ∙ ap (λ (n : ℕ). request_reply m d (config_of_server s) (server_view m d c s understood sound offers a chosen readable (session_between m c s a) (n + 1) (reached j)) x.user x.service (held_method m (session_between m c s a) x.user x.service x.proving)) (sym made_is)
+      (server_asked_for m d c s compatible sound offers a chosen readable before (j + 1) j (completed j) x get here).0
+      ∙ ap (λ (n : ℕ). request_reply m d (config_of_server s) (server_view m d c s compatible sound offers a chosen readable (session_between m c s a) (n + 1) (completed j)) x.user x.service (held_method m (session_between m c s a) x.user x.service x.proving)) (sym made_is)
       ∙ judged m d c s sound a (session_between m c s a) (version_of c.side) _ _ [] _ false s.side.ignored_limit made x (named_at j x get) (signs_at j x get) (readable.short j x get) (omega (arith, made_is, granted m d c s sound.tries most j more)) refl refl in
       let b = brings_at m d c s j x get in
       elim (dec_lt (j + 1) v.requests) [
@@ -176,9 +176,9 @@ module _ (m : SuiteData) (d : DecisionsData) (c : ClientData) (s : ServerData) (
       let made_is : length (take j (offered m d s c.plan)) ≡ j = take_length (offered m d s c.plan) j (omega (arith, more, most)) in
       let next : sits (before ++ held_request m (session_between m c s a) x.0 ∷ []) (suc j) =
       subst (λ (n : ℕ). sits (before ++ held_request m (session_between m c s a) x.0 ∷ []) n) (let e : j + 1 ≡ suc j = omega arith in e)
-      (subst (λ (g : ReachedData). Sits (server_setup m d s) (version_of c.side) (before ++ held_request m (session_between m c s a) x.0 ∷ []) phase.Auth false
-      (server_view m d c s understood sound offers a chosen readable (session_between m c s a) (j + 1 + 1) g)) (reached_next j x.0 x.1 made_is)
-      (server_asked_for m d c s understood sound offers a chosen readable before (j + 1) j (reached j) x.0 x.1 here).1) in
+      (subst (λ (g : CompletedMethodsData). Sits (server_setup m d s) (version_of c.side) (before ++ held_request m (session_between m c s a) x.0 ∷ []) phase.Auth false
+      (server_view m d c s compatible sound offers a chosen readable (session_between m c s a) (j + 1 + 1) g)) (completed_next j x.0 x.1 made_is)
+      (server_asked_for m d c s compatible sound offers a chosen readable before (j + 1) j (completed j) x.0 x.1 here).1) in
       subst (λ (g : Units). EachPlace Q (version_of c.side ∷ before) (g ++ from (client_next w v) (suc j) (suc r))) (sym one) (
         answers_here before j x.0 here at x.1 more most,
         server_loop r (suc j) (omega (arith, sum)) most (before ++ held_request m (session_between m c s a) x.0 ∷ []) next (omega (arith, at, length-append before (held_request m (session_between m c s a) x.0 ∷ []))),

@@ -1,6 +1,7 @@
 -- The session identifier of two configs.
 
 use Rattle.std.proofs.Common.{◌≡◌, ◌∙◌, ℕ, List, Option, Some, Result, Ok, Err, IfOk, option_map, refl, sym, ap}
+use Rattle.sshmsg.specs.Written.{kexinit_payload, written_message}
 use Rattle.sshneg.specs.Derivations.{exchange_text}
 use Rattle.sshneg.specs.Fields.{AlgorithmsData}
 use Rattle.sshpacket.specs.declared.suite.Response.{Response}
@@ -23,6 +24,7 @@ responded o r answer e is = sym e ∙ ap (option_map (λ r. response_data r)) is
 -- the exchange of two configs
 same_exchange : (m : SuiteData) (c : ClientData) (s : ServerData) (a : AlgorithmsData) (shares : SharesGiven) → AreBetween m c s a shares
     → exchange_given c s shares ≡ exchange_between m c s a
+unfolding kexinit_payload written_message
 same_exchange m c s a shares are =
     let share = ap (λ (r : ResponseData). r.share) are.answer in
     let shared = ap (λ (r : ResponseData). r.shared) are.answer in

@@ -6,7 +6,7 @@ use Rattle.sshpacket.specs.Parse.{Refusal}
 use Rattle.sshpacket.specs.Places.{EachPlace, IsPrefix, flat_places}
 use Rattle.sshpacket.specs.Stream.{Sent, Units}
 use Rattle.sshpacket.proofs.Places.{each-prefix, each-push, flat-append}
-use Rattle.sshcore.specs.declared.table.Phase.TheVariants as phase
+use Rattle.sshcore.specs.declared.phase_table.Phase.TheVariants as phase
 use Rattle.sshcore.specs.Counting.{switched_out}
 use Rattle.sshcore.specs.Directions.{payloads_in, spells}
 use Rattle.sshcore.specs.EndData.{EndData, Open}
@@ -14,7 +14,7 @@ use Rattle.sshcore.specs.History.{IsReady}
 use Rattle.sshcore.specs.EndpointParts.{Setup}
 use Rattle.sshcore.specs.Replies.{Ends, Replies, StaysOpen, answers_at, end_at, ended, goes_on, refusal_reply}
 use Rattle.sshcore.specs.Work.{making}
-use Rattle.sshcore.proofs.Below.{Below}
+use Rattle.sshcore.proofs.LawsBelow.{Below}
 use Rattle.sshcore.proofs.KeyedLemmas.{keyed, still_making}
 use Rattle.sshcore.proofs.StreamLemmas.{ready_more, sent_stays, switched_append}
 use Rattle.sshcore.proofs.StrictLaws.{begun_none, stands}

@@ -46,9 +46,9 @@ module _ {S D : Type 0} (meaning : S → SuiteData) (policy : D → DecisionsDat
   sent_on sent old new (ReceivesInto n b) = record { rest = b.breaks.added; whole_is = b.breaks.appended }
 
   -- the node that was fed
-  fed_stands : (role : Side) (party : ConfigData) (suite : S) (decisions : D) (sent : List ℕ) (old new : Node S D) (n : ℕ)
-      → NodeStands meaning policy role party suite decisions old sent → IsFed meaning policy sent n old new → NodeStands meaning policy role party suite decisions new sent
-  fed_stands role party suite decisions sent old new n s f =
+  fed_stands : (role : Side) (config : ConfigData) (suite : S) (decisions : D) (sent : List ℕ) (old new : Node S D) (n : ℕ)
+      → NodeStands meaning policy role config suite decisions old sent → IsFed meaning policy sent n old new → NodeStands meaning policy role config suite decisions new sent
+  fed_stands role config suite decisions sent old new n s f =
       let had : endpoint_end old.endpoint ≢ Failed fault.Memory = λ h. cc (h, f.was_open) in
       let even : old.used ≡ old.moved = s.all_used f.was_open in
       let received : take old.used sent ++ take f.used (take n (drop old.moved sent)) ≡ take new.used sent =
@@ -68,9 +68,9 @@ module _ {S D : Type 0} (meaning : S → SuiteData) (policy : D → DecisionsDat
       }
 
   -- the node for which memory ran out
-  broken_stands : (role : Side) (party : ConfigData) (suite : S) (decisions : D) (sent : List ℕ) (old new : Node S D) (n : ℕ)
-      → NodeStands meaning policy role party suite decisions old sent → BrokenWith meaning policy sent n old new → NodeStands meaning policy role party suite decisions new sent
-  broken_stands role party suite decisions sent old new n s b = record {
+  broken_stands : (role : Side) (config : ConfigData) (suite : S) (decisions : D) (sent : List ℕ) (old new : Node S D) (n : ℕ)
+      → NodeStands meaning policy role config suite decisions old sent → BrokenWith meaning policy sent n old new → NodeStands meaning policy role config suite decisions new sent
+  broken_stands role config suite decisions sent old new n s b = record {
     is_role = b.breaks.same.same_role ∙ s.is_role;
     is_config = b.breaks.same.same_config ∙ s.is_config;
     is_suite = b.breaks.same.same_suite ∙ s.is_suite;
@@ -83,17 +83,17 @@ module _ {S D : Type 0} (meaning : S → SuiteData) (policy : D → DecisionsDat
   }
 
   -- The node that receives stands as before, with more that it has used and sent.
-  pub receiver_stands : (role : Side) (party : ConfigData) (suite : S) (decisions : D) (sent : List ℕ) (old new : Node S D)
-      → NodeStands meaning policy role party suite decisions old sent → Receives meaning policy sent old new → NodeStands meaning policy role party suite decisions new sent
-  receiver_stands role party suite decisions sent old new s (ReceivesNone e) = subst (λ (n : Node S D). NodeStands meaning policy role party suite decisions n sent) (sym e) s
-  receiver_stands role party suite decisions sent old new s (ReceivesSome n f) = fed_stands role party suite decisions sent old new n s f
-  receiver_stands role party suite decisions sent old new s (ReceivesInto n b) = broken_stands role party suite decisions sent old new n s b
+  pub receiver_stands : (role : Side) (config : ConfigData) (suite : S) (decisions : D) (sent : List ℕ) (old new : Node S D)
+      → NodeStands meaning policy role config suite decisions old sent → Receives meaning policy sent old new → NodeStands meaning policy role config suite decisions new sent
+  receiver_stands role config suite decisions sent old new s (ReceivesNone e) = subst (λ (n : Node S D). NodeStands meaning policy role config suite decisions n sent) (sym e) s
+  receiver_stands role config suite decisions sent old new s (ReceivesSome n f) = fed_stands role config suite decisions sent old new n s f
+  receiver_stands role config suite decisions sent old new s (ReceivesInto n b) = broken_stands role config suite decisions sent old new n s b
 
   -- So callers see it: what was sent before stands in front, and all of it is whole packets.
-  pub breaks_off : (role : Side) (party : ConfigData) (suite : S) (decisions : D) (old new their : Node S D) (n : ℕ)
-      → NodeStands meaning policy role party suite decisions old their.sent.items → BrokenWith meaning policy their.sent.items n old new
-      → BreaksOff (setup_with (meaning suite) (policy decisions) role party) n (node_data old) (node_data new) (node_data their)
-  breaks_off role party suite decisions old new their n s b =
+  pub breaks_off : (role : Side) (config : ConfigData) (suite : S) (decisions : D) (old new their : Node S D) (n : ℕ)
+      → NodeStands meaning policy role config suite decisions old their.sent.items → BrokenWith meaning policy their.sent.items n old new
+      → BreaksOff (setup_with (meaning suite) (policy decisions) role config) n (node_data old) (node_data new) (node_data their)
+  breaks_off role config suite decisions old new their n s b =
       let sent : List ℕ = their.sent.items in
       let had : endpoint_end old.endpoint ≢ Failed fault.Memory = λ h. cc (h, b.was_open) in
       let within : b.breaks.used ≤ n = omega (arith, b.breaks.within, length-take n (drop old.moved sent)) in
@@ -107,19 +107,19 @@ module _ {S D : Type 0} (meaning : S → SuiteData) (policy : D → DecisionsDat
         used = b.breaks.used;
         used_within = within;
         broken_off =
-            subst (λ (r : Side). BrokenOff (setup_with (meaning suite) (policy decisions) r party) (take (old.used + b.breaks.used) sent) new.sent.items) s.is_role
+            subst (λ (r : Side). BrokenOff (setup_with (meaning suite) (policy decisions) r config) (take (old.used + b.breaks.used) sent) new.sent.items) s.is_role
             (subst (λ (p : ConfigData). BrokenOff (setup_with (meaning suite) (policy decisions) old.endpoint.role p) (take (old.used + b.breaks.used) sent) new.sent.items) s.is_config
-            (subst (λ (k : S). BrokenOff (setup_with (meaning k) (policy decisions) old.endpoint.role old.endpoint.party) (take (old.used + b.breaks.used) sent) new.sent.items) s.is_suite
-            (subst (λ (k : D). BrokenOff (setup_with (meaning old.endpoint.suite) (policy k) old.endpoint.role old.endpoint.party) (take (old.used + b.breaks.used) sent) new.sent.items) s.is_decisions
+            (subst (λ (k : S). BrokenOff (setup_with (meaning k) (policy decisions) old.endpoint.role old.endpoint.config) (take (old.used + b.breaks.used) sent) new.sent.items) s.is_suite
+            (subst (λ (k : D). BrokenOff (setup_with (meaning old.endpoint.suite) (policy k) old.endpoint.role old.endpoint.config) (take (old.used + b.breaks.used) sent) new.sent.items) s.is_decisions
             (subst (λ (h : List ℕ). BrokenOff (endpoint_setup meaning policy old.endpoint) h new.sent.items) received
             (subst (λ (t : List ℕ). BrokenOff (endpoint_setup meaning policy old.endpoint) (take old.used sent ++ take b.breaks.used (take n (drop old.moved sent))) t) (sym b.breaks.appended)
             (b.breaks.follows (take old.used sent) old.sent.items (s.after had)))))));
       }
 
   -- The other node stands as before, beside more that was sent.
-  pub sender_stands : (role : Side) (party : ConfigData) (suite : S) (decisions : D) (node : Node S D) (sent more : List ℕ)
-      → NodeStands meaning policy role party suite decisions node sent → IsPrefix sent more → NodeStands meaning policy role party suite decisions node more
-  sender_stands role party suite decisions node sent more s p =
+  pub sender_stands : (role : Side) (config : ConfigData) (suite : S) (decisions : D) (node : Node S D) (sent more : List ℕ)
+      → NodeStands meaning policy role config suite decisions node sent → IsPrefix sent more → NodeStands meaning policy role config suite decisions node more
+  sender_stands role config suite decisions node sent more s p =
       let stays : take node.used more ≡ take node.used sent = ap (take node.used) p.whole_is ∙ take-append-le node.used sent p.rest (omega (arith, s.used_within, s.moved_within)) in
       record {
         is_role = s.is_role;
@@ -134,9 +134,9 @@ module _ {S D : Type 0} (meaning : S → SuiteData) (policy : D → DecisionsDat
       }
 
   -- A node that stands so has replied, as callers see it.
-  pub side_replies : (role : Side) (party : ConfigData) (suite : S) (decisions : D) (own their : Node S D)
-      → NodeStands meaning policy role party suite decisions own their.sent.items → SideReplies meaning policy role party suite decisions (node_data own) (node_data their)
-  side_replies role party suite decisions own their s = record {
+  pub side_replies : (role : Side) (config : ConfigData) (suite : S) (decisions : D) (own their : Node S D)
+      → NodeStands meaning policy role config suite decisions own their.sent.items → SideReplies meaning policy role config suite decisions (node_data own) (node_data their)
+  side_replies role config suite decisions own their s = record {
     used_within = s.used_within;
     moved_within = s.moved_within;
     all_used = s.all_used;
@@ -152,9 +152,9 @@ module _ {S D : Type 0} (meaning : S → SuiteData) (policy : D → DecisionsDat
   }
 
   -- A node that has received nothing stands, whatever the other has sent; and so it begins, as callers see it.
-  pub made_stands : (role : Side) (party : ConfigData) (suite : S) (decisions : D) (node : Node S D) (sent : List ℕ)
-      → IsFresh meaning policy role party suite decisions node → NodeStands meaning policy role party suite decisions node sent
-  made_stands role party suite decisions node sent fresh = record {
+  pub made_stands : (role : Side) (config : ConfigData) (suite : S) (decisions : D) (node : Node S D) (sent : List ℕ)
+      → IsFresh meaning policy role config suite decisions node → NodeStands meaning policy role config suite decisions node sent
+  made_stands role config suite decisions node sent fresh = record {
     is_role = fresh.made.is_role;
     is_config = fresh.made.is_config;
     is_suite = fresh.made.is_suite;
@@ -167,7 +167,7 @@ module _ {S D : Type 0} (meaning : S → SuiteData) (policy : D → DecisionsDat
     uncut = ap by_owner fresh.made.is_open;
   }
 
-  pub side_begins : (role : Side) (party : ConfigData) (suite : S) (decisions : D) (node : Node S D)
-      → IsFresh meaning policy role party suite decisions node → SideBegins meaning policy role party suite decisions (node_data node)
-  side_begins role party suite decisions node fresh =
+  pub side_begins : (role : Side) (config : ConfigData) (suite : S) (decisions : D) (node : Node S D)
+      → IsFresh meaning policy role config suite decisions node → SideBegins meaning policy role config suite decisions (node_data node)
+  side_begins role config suite decisions node fresh =
       record { none_moved = fresh.none_moved; none_used = fresh.none_used; is_open = fresh.made.is_open; endpoint = node.endpoint; made = fresh.made }

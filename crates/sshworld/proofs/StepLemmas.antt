@@ -6,8 +6,8 @@ use Rattle.std.proofs.lemmas.Slice.Eq.{bytes_eq-Decides}
 use Rattle.sshwire.specs.declared.share_form.ShareForm.TheVariants.{Mpint}
 use Rattle.sshmsg.specs.MessageData.{KexInit, KexInitData, MessageData}
 use Rattle.sshmsg.specs.Messages.{message_in}
-use Rattle.sshmsg.specs.Numbers.{kind, number_of}
-use Rattle.sshmsg.proofs.NumberLemmas.{kind_tells, reads_alike}
+use Rattle.sshmsg.specs.Numbers.{message_number, number_of}
+use Rattle.sshmsg.proofs.NumberLemmas.{message_number_tells, reads_alike}
 use Rattle.sshneg.specs.declared.side.Side.{Side}
 use Rattle.sshneg.specs.declared.side.Side.TheVariants.{Client, Server}
 use Rattle.sshneg.specs.ChoiceReadings.{choice}
@@ -17,28 +17,28 @@ use Rattle.sshneg.specs.Strictness.{is_right_guess}
 use Rattle.sshpacket.specs.Stream.{Units}
 use Rattle.sshpacket.specs.Suite.{SuiteData}
 use Rattle.sshcore.specs.declared.end.Fault.TheVariants as fault
-use Rattle.sshcore.specs.declared.table.Line.{Line}
-use Rattle.sshcore.specs.declared.table.Line.TheVariants as line
-use Rattle.sshcore.specs.declared.table.Phase.{Phase}
-use Rattle.sshcore.specs.declared.table.Phase.TheVariants as phase
+use Rattle.sshcore.specs.declared.phase_table.Disposition.{Disposition}
+use Rattle.sshcore.specs.declared.phase_table.Disposition.TheVariants as disposition
+use Rattle.sshcore.specs.declared.phase_table.Phase.{Phase}
+use Rattle.sshcore.specs.declared.phase_table.Phase.TheVariants as phase
 use Rattle.sshcore.specs.IgnoredLimit.{cost, less}
 use Rattle.sshcore.specs.Before.{strict_towards, wrong_guess}
 use Rattle.sshcore.specs.Counting.{number_in}
 use Rattle.sshcore.specs.EndData.{fails, goes}
 use Rattle.sshcore.specs.Exchange.{exchange_with}
-use Rattle.sshcore.specs.Known.{Known}
+use Rattle.sshcore.specs.KnownBefore.{Known}
 use Rattle.sshcore.specs.EndpointParts.{ConfigData, DecisionsData, Setup}
 use Rattle.sshcore.specs.Phases.{leaving, next_phase, past_exchange}
 use Rattle.sshcore.specs.ConfigParts.{AttemptData}
 use Rattle.sshcore.specs.Plan.{confirmed, is_answer, is_waiting, listed_by, listed_in, next_after}
-use Rattle.sshcore.specs.Reached.{reached_after}
+use Rattle.sshcore.specs.CompletedMethods.{completed_after}
 use Rattle.sshcore.specs.Tries.{tried_by, tried_in}
-use Rattle.sshcore.specs.Replies.{line_reply, read_reply, reply_at}
+use Rattle.sshcore.specs.Replies.{disposition_reply, read_reply, reply_at}
 use Rattle.sshcore.specs.Standing.{LeavesNone, Sits, after_offer, after_payload, nothing_known}
-use Rattle.sshcore.specs.Table.{line_by, is_ignorable}
+use Rattle.sshcore.specs.Table.{disposition_by, is_ignorable}
 use Rattle.sshcore.specs.Work.{chosen_reply, kexinit_reply, work}
 use Rattle.sshcore.proofs.IgnoredLimitLemmas.{always_allowed}
-use Rattle.sshcore.proofs.Below.{Below}
+use Rattle.sshcore.proofs.LawsBelow.{Below}
 use Rattle.sshcore.proofs.StandingLemmas as standing
 
 -- two names that are the same
@@ -68,45 +68,45 @@ right_complete client server r =
     (same_complete (first_name client.server_host_key_algorithms) (first_name server.server_host_key_algorithms) r.host_key r.client_host_key r.server_host_key)
 
 pub below : Below
-below = record { numbers = kind_tells; alike = reads_alike; right = λ client server. (right_sound client server, right_complete client server) }
+below = record { numbers = message_number_tells; alike = reads_alike; right = λ client server. (right_sound client server, right_complete client server) }
 
 -- what a message changes that says something, and is neither dropped nor the first KEXINIT nor the exchange message
 abbrev pub left_by : List AttemptData → MessageData → List AttemptData
 left_by left content = if number_of content == 60 then confirmed left else next_after (listed_by (Ok content)) left
 
 abbrev pub after_content : SuiteData → DecisionsData → ConfigData → Known → MessageData → Known
-after_content m d party x content = record x {
+after_content m d config x content = record x {
   request = if number_of content == 50 then x.request + 1 else x.request;
   left = if is_answer (number_of content) then left_by x.left content else x.left;
-  reached = if number_of content == 50 then reached_after x.reached (tried_by m d party x.session x.request (Ok content)) else x.reached;
+  completed = if number_of content == 50 then completed_after x.completed (tried_by m d config x.session x.request (Ok content)) else x.completed;
   first = false;
-  allowance = if number_of content == 21 then party.ignored_limit else x.allowance;
+  allowance = if number_of content == 21 then config.ignored_limit else x.allowance;
 }
 
-after_read : (m : SuiteData) (d : DecisionsData) (party : ConfigData) (x : Known) (payload : List ℕ) (content : MessageData) → is_ignorable (number_of content) ≡ false → message_in Mpint payload ≡ Ok content
-    → after_payload m d party x payload ≡ after_content m d party x content
+after_read : (m : SuiteData) (d : DecisionsData) (config : ConfigData) (x : Known) (payload : List ℕ) (content : MessageData) → is_ignorable (number_of content) ≡ false → message_in Mpint payload ≡ Ok content
+    → after_payload m d config x payload ≡ after_content m d config x content
 unfolding listed_in tried_in
-after_read m d party x payload content heeded e =
+after_read m d config x payload content heeded e =
     ap (λ (n : ℕ). record x {
       request = if n == 50 then x.request + 1 else x.request;
       left = if is_answer n then (if n == 60 then confirmed x.left else next_after (listed_in payload) x.left) else x.left;
-      reached = if n == 50 then reached_after x.reached (tried_in m d party x.session x.request payload) else x.reached;
+      completed = if n == 50 then completed_after x.completed (tried_in m d config x.session x.request payload) else x.completed;
       first = false;
-      allowance = if n == 21 then party.ignored_limit else if is_ignorable n then less x.allowance (cost payload) else x.allowance;
-    }) (kind_tells Mpint payload content e)
+      allowance = if n == 21 then config.ignored_limit else if is_ignorable n then less x.allowance (cost payload) else x.allowance;
+    }) (message_number_tells Mpint payload content e)
     ∙ ap (λ r. record x {
       request = if number_of content == 50 then x.request + 1 else x.request;
       left = if is_answer (number_of content) then (if number_of content == 60 then confirmed x.left else next_after (listed_by r) x.left) else x.left;
-      reached = if number_of content == 50 then reached_after x.reached (tried_by m d party x.session x.request r) else x.reached;
+      completed = if number_of content == 50 then completed_after x.completed (tried_by m d config x.session x.request r) else x.completed;
       first = false;
-      allowance = if number_of content == 21 then party.ignored_limit else if is_ignorable (number_of content) then less x.allowance (cost payload) else x.allowance;
+      allowance = if number_of content == 21 then config.ignored_limit else if is_ignorable (number_of content) then less x.allowance (cost payload) else x.allowance;
     }) e
     ∙ ap (λ (b : Bool). record x {
       request = if number_of content == 50 then x.request + 1 else x.request;
       left = if is_answer (number_of content) then left_by x.left content else x.left;
-      reached = if number_of content == 50 then reached_after x.reached (tried_by m d party x.session x.request (Ok content)) else x.reached;
+      completed = if number_of content == 50 then completed_after x.completed (tried_by m d config x.session x.request (Ok content)) else x.completed;
       first = false;
-      allowance = if number_of content == 21 then party.ignored_limit else if b then less x.allowance (cost payload) else x.allowance;
+      allowance = if number_of content == 21 then config.ignored_limit else if b then less x.allowance (cost payload) else x.allowance;
     }) heeded
 
 -- what leaves a phase says something
@@ -122,29 +122,29 @@ leaving_heeded Server phase.NewKeys n e = rw e refl
 leaving_heeded Server phase.Service n e = rw e refl
 leaving_heeded Server phase.Auth n e = rw e refl
 
-first_line : (role : Side) (b waits : Bool) → line_by role phase.KexInit b false waits 20 ≡ line.Reads
-unfolding line_by
+first_line : (role : Side) (b waits : Bool) → disposition_by role phase.KexInit b false waits 20 ≡ disposition.Reads
+unfolding disposition_by
 first_line role b waits = refl
 
 module _ (setup : Setup) (version : List ℕ) where
   -- a message that has a place and says something is worked on
   pub reads : (before : Units) (payload : List ℕ) (p : Phase) (guess : Bool) (x : Known) (content : MessageData) → is_ignorable (number_of content) ≡ false → Sits setup version before p guess x
-      → message_in x.shares payload ≡ Ok content → line_by setup.role p x.strict guess (is_waiting x.left) (number_of content) ≡ line.Reads
+      → message_in x.shares payload ≡ Ok content → disposition_by setup.role p x.strict guess (is_waiting x.left) (number_of content) ≡ disposition.Reads
       → reply_at setup version before payload ≡ work setup x content
-  unfolding line_reply
+  unfolding disposition_reply
   reads before payload p guess x content heeded s e is =
       standing.replies setup version before payload p guess x s
-      ∙ ap (λ (n : ℕ). line_reply setup x (number_in setup.role setup.config before) (line_by setup.role p x.strict guess (is_waiting x.left) n) payload) (kind_tells x.shares payload content e)
-      ∙ ap (λ (l : Line). line_reply setup x (number_in setup.role setup.config before) l payload) is
-      ∙ always_allowed x payload (read_reply setup x (kind payload) (message_in x.shares payload)) (ap is_ignorable (kind_tells x.shares payload content e) ∙ heeded)
-      ∙ ap (λ r. read_reply setup x (kind payload) r) e
+      ∙ ap (λ (n : ℕ). disposition_reply setup x (number_in setup.role setup.config before) (disposition_by setup.role p x.strict guess (is_waiting x.left) n) payload) (message_number_tells x.shares payload content e)
+      ∙ ap (λ (l : Disposition). disposition_reply setup x (number_in setup.role setup.config before) l payload) is
+      ∙ always_allowed x payload (read_reply setup x (message_number payload) (message_in x.shares payload)) (ap is_ignorable (message_number_tells x.shares payload content e) ∙ heeded)
+      ∙ ap (λ r. read_reply setup x (message_number payload) r) e
 
   pub drops : (before : Units) (payload : List ℕ) (p : Phase) (guess : Bool) (x : Known) → Sits setup version before p guess x
-      → line_by setup.role p x.strict guess (is_waiting x.left) (kind payload) ≡ line.Drops → reply_at setup version before payload ≡ goes []
-  unfolding line_reply
+      → disposition_by setup.role p x.strict guess (is_waiting x.left) (message_number payload) ≡ disposition.Drops → reply_at setup version before payload ≡ goes []
+  unfolding disposition_reply
   drops before payload p guess x s is =
       standing.replies setup version before payload p guess x s
-      ∙ ap (λ (l : Line). line_reply setup x (number_in setup.role setup.config before) l payload) is
+      ∙ ap (λ (l : Disposition). disposition_reply setup x (number_in setup.role setup.config before) l payload) is
 
   -- the peer's KEXINIT, the first payload
   pub begins : (payload : List ℕ) (peer : KexInitData) → message_in Mpint payload ≡ Ok (KexInit peer)
@@ -159,7 +159,7 @@ module _ (setup : Setup) (version : List ℕ) where
       ∙ ap (λ (b : Bool). if b then fails (fault.Strict 20) else chosen_reply setup.suite setup.role setup.config peer (choice setup.suite (client_of setup.role setup.config.offer peer) (server_of setup.role setup.config.offer peer))) (and_right (strict_towards setup.role setup.config.strict (Some peer)) false refl)
 
   -- the packet of a wrong guess changes nothing but that none is due any more
-  pub goes_dropped : (before : Units) (payload : List ℕ) (p : Phase) (x : Known) → Sits setup version before p true x → (kind payload == 1) ≡ false
+  pub goes_dropped : (before : Units) (payload : List ℕ) (p : Phase) (x : Known) → Sits setup version before p true x → (message_number payload == 1) ≡ false
       → Sits setup version (before ++ payload ∷ []) p false (record x { first = false })
   goes_dropped before payload p x s one = standing.drops setup version before payload p x s one
 
@@ -168,13 +168,13 @@ module _ (setup : Setup) (version : List ℕ) where
       → message_in Mpint payload ≡ Ok content → number_of content ≡ leaving setup.role p → Sits setup version (before ++ payload ∷ []) (next_phase p) false (after_content setup.suite setup.decisions setup.config x content)
   goes_leaving before payload p x content s past e n =
       subst (λ (k : Known). Sits setup version (before ++ payload ∷ []) (next_phase p) false k) (after_read setup.suite setup.decisions setup.config x payload content (leaving_heeded setup.role p (number_of content) n) e)
-      (standing.leaves setup version before payload p x s past (kind_tells Mpint payload content e ∙ n))
+      (standing.leaves setup version before payload p x s past (message_number_tells Mpint payload content e ∙ n))
 
   pub goes_staying : (before : Units) (payload : List ℕ) (p : Phase) (x : Known) (content : MessageData) → is_ignorable (number_of content) ≡ false → Sits setup version before p false x
       → message_in Mpint payload ≡ Ok content → LeavesNone setup.role (number_of content) → Sits setup version (before ++ payload ∷ []) p false (after_content setup.suite setup.decisions setup.config x content)
   goes_staying before payload p x content heeded s e l =
       subst (λ (k : Known). Sits setup version (before ++ payload ∷ []) p false k) (after_read setup.suite setup.decisions setup.config x payload content heeded e)
-      (standing.stays setup version before payload p x s (subst (λ (n : ℕ). LeavesNone setup.role n) (sym (kind_tells Mpint payload content e)) l))
+      (standing.stays setup version before payload p x s (subst (λ (n : ℕ). LeavesNone setup.role n) (sym (message_number_tells Mpint payload content e)) l))
 
   -- the exchange message gives the session
   pub goes_exchanged : (before : Units) (payload : List ℕ) (x : Known) (content : MessageData) → Sits setup version before phase.Exchange false x → message_in x.shares payload ≡ Ok content
@@ -183,4 +183,4 @@ module _ (setup : Setup) (version : List ℕ) where
       (record x { session = exchange_hash setup.suite x.algorithms.kex (exchange_with setup.suite setup.role setup.config x.algorithms x.version x.kexinit (Ok content)) })
   goes_exchanged before payload x content s e n =
       subst (λ (r : _). Sits setup version (before ++ payload ∷ []) phase.NewKeys false (record x { session = exchange_hash setup.suite x.algorithms.kex (exchange_with setup.suite setup.role setup.config x.algorithms x.version x.kexinit r) }))
-      e (standing.exchanges setup version before payload x s (kind_tells x.shares payload content e ∙ n))
+      e (standing.exchanges setup version before payload x s (message_number_tells x.shares payload content e ∙ n))

@@ -42,7 +42,7 @@ module _ (laws : Laws) (m : SuiteData) (d : DecisionsData) (lawful : IsLawful m)
       elim (open_or_not node.end) [
         | inl o ↦
             let all : length a.units ≡ units_sent their.part (length b.units)
-            = ap length (all_received_of laws m d lawful own their receives node opposite on had other_had a b o none) ∙ sent_count their.part b.units b.answers opposite.end theirs their.party.version in
+            = ap length (all_received_of laws m d lawful own their receives node opposite on had other_had a b o none) ∙ sent_count their.part b.units b.answers opposite.end theirs their.config.version in
             let more : units_sent their.part k ≤ units_sent their.part (length b.units) = more_units_sent their.part k (length b.units) (least b) in
             let right : min own.part.receives (units_sent their.part k) ≤ units_sent their.part k = min-le_right own.part.receives (units_sent their.part k) in
             omega (arith, all, more, right)

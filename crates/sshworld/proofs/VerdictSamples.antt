@@ -77,7 +77,7 @@ module _ (suite : SuiteData) (anyone : ClientData) (any : ServerData) where
   al_nothing = attempt (codes "al") ByNothing
 
   -- Both methods are required: they succeed at the second request, also as the last that is granted; of one request the first was the
-  -- last; another user between them empties what was reached; a query between them doesn't; and `none` reaches nothing.
+  -- last; another user between them empties what was completed; a query between them doesn't; and `none` completes nothing.
   required : (verdict m (denying 0) (client (al_password ∷ itself ∷ [])) (server both both 6) ≡ record { requests = 2; how = Success itself }) × (verdict m (denying 0) (client (al_password ∷ itself ∷ [])) (server both both 2) ≡ record { requests = 2; how = Success itself }) × (verdict m (denying 0) (client (al_password ∷ itself ∷ [])) (server both both 1) ≡ record { requests = 1; how = Limit }) × (verdict m (denying 0) (client (al_password ∷ bo_password ∷ itself ∷ [])) (server both both 6) ≡ record { requests = 3; how = Exhausted }) × (verdict m (denying 0) (client (al_password ∷ asking)) (server both both 6) ≡ record { requests = 3; how = Success itself }) × (verdict m (denying 0) (client (al_nothing ∷ [])) (server both both 6) ≡ record { requests = 1; how = Exhausted })
   unfolding verdict m service knows denying attempt server both client asking itself al_password bo_password al_nothing
   required = (refl, refl, refl, refl, refl, refl)

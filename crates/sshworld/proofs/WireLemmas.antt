@@ -18,7 +18,7 @@ use Rattle.sshworld.specs.Headline.{Headline}
 use Rattle.sshworld.specs.Laws.{Laws}
 use Rattle.sshworld.specs.Nodes.{Receives, ReceivesNone, ReceivesSome, seen}
 use Rattle.sshworld.specs.Outcome.{outcome}
-use Rattle.sshworld.specs.Understood.{AreUnderstood}
+use Rattle.sshworld.specs.Compatible.{AreCompatible}
 use Rattle.sshworld.specs.Wire.{AreOnWire, HaveUsedAll, UsesMore, WireEnd, wire_node}
 use Rattle.sshworld.specs.Worlds.{Complete, waiting_at}
 use Rattle.sshworld.proofs.HeadlineLemmas.{open_or_not}
@@ -83,11 +83,11 @@ module _ {S D : Type 0} (meaning : S → SuiteData) (policy : D → DecisionsDat
       server_had = more.had_memory on.server_had;
     }
 
-  pub wire_ends : (receive_law : ReceiveLaw) (lawful : IsLawful (meaning suite)) (client server : WireEnd S D) → AreUnderstood (meaning suite) (policy decisions) client_config server_config
+  pub wire_ends : (receive_law : ReceiveLaw) (lawful : IsLawful (meaning suite)) (client server : WireEnd S D) → AreCompatible (meaning suite) (policy decisions) client_config server_config
       → AreOnWire meaning policy client_config server_config suite decisions client server
       → Headline (outcome (meaning suite) (policy decisions) client_config server_config) (endpoint_end client.endpoint) (endpoint_end server.endpoint) (HaveUsedAll client server)
-  wire_ends receive_law lawful client server understood on =
-      let h = (holds_in meaning policy client_config server_config suite decisions laws receive_law lawful (wire_node client) (wire_node server) on.stand).headline understood
+  wire_ends receive_law lawful client server compatible on =
+      let h = (holds_in meaning policy client_config server_config suite decisions laws receive_law lawful (wire_node client) (wire_node server) on.stand).headline compatible
       (record { client_had = on.client_had; server_had = on.server_had }) in
       let complete : HaveUsedAll client server → Complete (seen client_config server_config suite decisions (wire_node client) (wire_node server)) = λ all. record {
         for_client = nothing_waits (endpoint_end client.endpoint) (length server.sent.items) client.used all.client_all;

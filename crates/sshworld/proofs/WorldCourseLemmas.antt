@@ -21,16 +21,16 @@ use Rattle.sshworld.specs.Partners.{BothOnCourse, Partner}
 use Rattle.sshworld.specs.Laws.{Laws}
 use Rattle.sshworld.specs.Rounds.{UnitsReceived, after_rounds}
 use Rattle.sshworld.specs.Nodes.{IsFresh, NodesStand, Receives, node_data, seen}
-use Rattle.sshworld.specs.Understood.{AreUnderstood}
+use Rattle.sshworld.specs.Compatible.{AreCompatible}
 use Rattle.sshworld.specs.Wordings.{wording_of}
-use Rattle.sshworld.specs.WorldCourse.{AreUnderstoodIn, IsOnCourse, KeepsCourse, KeepsHeadline, ReceivesAll, WorldHolds, WorldStands}
+use Rattle.sshworld.specs.WorldCourse.{AreCompatibleIn, IsOnCourse, KeepsCourse, KeepsHeadline, ReceivesAll, WorldHolds, WorldStands}
 use Rattle.sshworld.specs.WorldRounds.{HaveReceivedIn, ReceivesRound, Settles, part_of_client_in, part_of_server_in, turn}
 use Rattle.sshworld.specs.Worlds.{Complete, HadMemory, IsSameSetup, NodeData, WorldData, waiting, waiting_at, waiting_for}
 use Rattle.sshworld.proofs.CourseReceivedLemmas.{course_received, headline_of}
 use Rattle.sshworld.proofs.DeliveryLemmas.{StandAt, each_replies, nodes_received, seen_at}
 use Rattle.sshworld.proofs.PartnerLemmas.{begins}
 use Rattle.sshworld.proofs.NodeLemmas.{node_history, stays_on_course}
-use Rattle.sshworld.proofs.OwnedLemmas.{there}
+use Rattle.sshwire.proofs.OwnedLemmas.{there}
 use Rattle.sshworld.proofs.StandsLemmas.{made_stands, side_begins}
 use Rattle.sshworld.proofs.TurnLemmas.{HasTakenAll, client_turn, server_turn, settled}
 
@@ -109,7 +109,7 @@ module _ {S D : Type 0} where
 
 module _ {S D : Type 0} (meaning : S → SuiteData) (policy : D → DecisionsData) (laws : Laws) where
   -- the clauses on a world
-  module _ (w : WorldData S D) (lawful : IsLawful (meaning w.suite)) (understands : AreUnderstood (meaning w.suite) (policy w.decisions) w.client_config w.server_config → ReceivesAll meaning policy w)
+  module _ (w : WorldData S D) (lawful : IsLawful (meaning w.suite)) (understands : AreCompatible (meaning w.suite) (policy w.decisions) w.client_config w.server_config → ReceivesAll meaning policy w)
       (on : IsOnCourse meaning policy w) where
     pub keeps_course : KeepsCourse meaning policy w
     keeps_course u had =
@@ -165,7 +165,7 @@ module _ {S D : Type 0} (meaning : S → SuiteData) (policy : D → DecisionsDat
 
 -- what two accepted configs of which the ends understand each other give
 abbrev pub ReceiveLaw : Type 0
-ReceiveLaw = (m : SuiteData) (d : DecisionsData) (client : ClientData) (server : ServerData) → IsLawful m → AreUnderstood m d client server → IsClient client → IsServer server
+ReceiveLaw = (m : SuiteData) (d : DecisionsData) (client : ClientData) (server : ServerData) → IsLawful m → AreCompatible m d client server → IsClient client → IsServer server
     → BothReceive m d client server (wording_of m d client server)
 
 module _ {S D : Type 0} (meaning : S → SuiteData) (policy : D → DecisionsData) (client_config : ClientData) (server_config : ServerData) (suite : S) (decisions : D) where
@@ -239,7 +239,7 @@ module _ {S D : Type 0} (meaning : S → SuiteData) (policy : D → DecisionsDat
 
   -- What callers see of a world that stands.
   module _ (laws : Laws) (receive_law : ReceiveLaw) (lawful : IsLawful (meaning suite)) (client server : Node S D) (w : WorldStands meaning policy client_config server_config suite decisions client server) where
-    pub understands_in : AreUnderstood (meaning suite) (policy decisions) client_config server_config → ReceivesAll meaning policy (seen client_config server_config suite decisions client server)
+    pub understands_in : AreCompatible (meaning suite) (policy decisions) client_config server_config → ReceivesAll meaning policy (seen client_config server_config suite decisions client server)
     understands_in u = receive_law (meaning suite) (policy decisions) client_config server_config lawful u w.client_accepted w.server_accepted
 
     course_in : KeepsCourse meaning policy (seen client_config server_config suite decisions client server)
@@ -279,10 +279,10 @@ module _ {S D : Type 0} (meaning : S → SuiteData) (policy : D → DecisionsDat
 
   -- So few rounds leave nothing that waits.
   pub bound : (old new : WorldData S D) (r : ℕ) → IsSameSetup old new → (HadMemory old → HadMemory new) → ReceivedAfter old new r
-      → (AreUnderstoodIn meaning policy new → ReceivesAll meaning policy new) → Settles meaning policy new
-      → AreUnderstoodIn meaning policy old → HadMemory old → most_requests old.client_config.plan + 4 ≤ r → Complete new
+      → (AreCompatibleIn meaning policy new → ReceivesAll meaning policy new) → Settles meaning policy new
+      → AreCompatibleIn meaning policy old → HadMemory old → most_requests old.client_config.plan + 4 ≤ r → Complete new
   bound old new r same =
       let e = same_world old new same in
-      subst (λ (v : WorldData S D). (HadMemory old → HadMemory v) → ReceivedAfter old v r → (AreUnderstoodIn meaning policy v → ReceivesAll meaning policy v) → Settles meaning policy v
-      → AreUnderstoodIn meaning policy old → HadMemory old → most_requests old.client_config.plan + 4 ≤ r → Complete v) (sym e)
+      subst (λ (v : WorldData S D). (HadMemory old → HadMemory v) → ReceivedAfter old v r → (AreCompatibleIn meaning policy v → ReceivesAll meaning policy v) → Settles meaning policy v
+      → AreCompatibleIn meaning policy old → HadMemory old → most_requests old.client_config.plan + 4 ≤ r → Complete v) (sym e)
       (λ still received understands settles u had few. settles u (still had) r few (received (understands u) had))

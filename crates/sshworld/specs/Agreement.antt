@@ -1,8 +1,7 @@
 -- What a client and a server agree on, by their configs: RFC 4253 sections 7 and 8.
 
 use Rattle.std.specs.Prelude.{◌&&◌, ℕ, List}
-use Rattle.sshmsg.specs.MessageData.{KexInit}
-use Rattle.sshmsg.specs.Written.{written_message}
+use Rattle.sshmsg.specs.Written.{kexinit_payload}
 use Rattle.sshneg.specs.Derivations.{ExchangeData}
 use Rattle.sshneg.specs.ExchangeEnd.{exchange_hash}
 use Rattle.sshneg.specs.Fields.{AlgorithmsData}
@@ -24,13 +23,13 @@ abbrev pub answer_of_server : SuiteData → ClientData → ServerData → List �
 answer_of_server m client server kex = answer_or (m.respond kex server.side.random (share_of_client m client kex))
 
 -- What both know of the key exchange: V_C, V_S, I_C, I_S, K_S, e, f and K (RFC 4253 section 8), where I_C and I_S are the
--- KEXINITs of both configs as they are written.
+-- payloads of the KEXINITs of both configs.
 abbrev pub exchange_between : SuiteData → ClientData → ServerData → AlgorithmsData → ExchangeData
 exchange_between m client server algorithms = record {
   client_version = version_of client.side;
   server_version = version_of server.side;
-  client_kexinit = written_message (KexInit (client_offer client));
-  server_kexinit = written_message (KexInit (server_offer server));
+  client_kexinit = kexinit_payload (client_offer client);
+  server_kexinit = kexinit_payload (server_offer server);
   host_key = host_key_of_server m server algorithms.host_key;
   client_share = share_of_client m client algorithms.kex;
   server_share = (answer_of_server m client server algorithms.kex).share;

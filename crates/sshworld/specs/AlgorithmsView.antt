@@ -7,6 +7,7 @@ use Rattle.sshcore.specs.EndData.{AgreedData}
 use Rattle.sshworld.specs.declared.algorithms.AlgorithmNames.{AlgorithmNames}
 use Rattle.sshworld.specs.declared.algorithms.Copies.{Copies}
 
+-- the twin of the names that a prediction has chosen
 abbrev pub algorithms_named : AlgorithmNames → AlgorithmsData
 algorithms_named names = record {
   kex = names.kex.now;
@@ -19,6 +20,7 @@ algorithms_named names = record {
   compression_server_to_client = names.compression_server_to_client.now;
 }
 
+-- the twin of copies of these names
 abbrev pub algorithms_copied : Copies → AlgorithmsData
 algorithms_copied copies = record {
   kex = string_bytes copies.exchange.first;

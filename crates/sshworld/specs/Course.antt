@@ -36,12 +36,13 @@ answers_to group (suc n) = answers_to group n ++ group n
 abbrev pub sent_after : Part → ℕ → Units
 sent_after part n = part.first ++ answers_to part.group n
 
--- these groups, and those that come after them
+-- the group for unit n: one of these groups, or of those that come after them
 abbrev pub group_at : List Units → (ℕ → Units) → ℕ → Units
 group_at [] after n = after n
 group_at (group ∷ groups) after zero = group
 group_at (group ∷ groups) after (suc n) = group_at groups after n
 
+-- every unit is answered by the empty group
 abbrev pub nothing : ℕ → Units
 nothing n = []
 
@@ -51,10 +52,11 @@ guessed w NoGuess = []
 guessed w RightGuess = w.init ∷ []
 guessed w WrongGuess = w.guess ∷ []
 
--- The client's first group is its KEXINIT, with its guess; the server's is its KEXINIT (RFC 4253 section 7.1).
+-- the client's first group is its KEXINIT, and its guess where it sends one (RFC 4253 section 7.1)
 abbrev pub client_first : Wording → Guess → Units
 client_first w guess = w.client_offer ∷ guessed w guess
 
+-- the server's first group is its KEXINIT (RFC 4253 section 7.1)
 abbrev pub server_first : Wording → Units
 server_first w = w.server_offer ∷ []
 
@@ -75,9 +77,11 @@ unanswered WrongGuess = [] ∷ []
 abbrev pub no_choice_groups : Wording → List Units
 no_choice_groups w = [] ∷ (w.disconnect SSH_DISCONNECT_KEY_EXCHANGE_FAILED ∷ []) ∷ []
 
+-- the client's part where no algorithm is common: it receives the server's version line and KEXINIT (RFC 4253 section 7.1)
 abbrev pub client_no_choice : Wording → Guess → EndData → Part
 client_no_choice w guess end = record { first = client_first w guess; group = group_at (no_choice_groups w) nothing; receives = 2; final = end }
 
+-- the server's part where no algorithm is common: it receives the client's version line and KEXINIT (RFC 4253 section 7.1)
 abbrev pub server_no_choice : Wording → EndData → Part
 server_no_choice w end = record { first = server_first w; group = group_at (no_choice_groups w) nothing; receives = 2; final = end }
 
@@ -92,7 +96,7 @@ client_no_trust w guess end = record {
 }
 
 -- The server receives the version line, KEXINIT, a wrong guess, KEXDH_INIT and that DISCONNECT. It answers the KEXDH_INIT by
--- KEXDH_REPLY and NEWKEYS.
+-- KEXDH_REPLY and NEWKEYS (RFC 4253 section 8).
 abbrev pub server_no_trust : Wording → Guess → EndData → Part
 server_no_trust w guess end = record {
   first = server_first w;
@@ -108,7 +112,7 @@ client_last w (Success attempt) = []
 client_last w Limit = []
 client_last w Exhausted = w.disconnect SSH_DISCONNECT_NO_MORE_AUTH_METHODS_AVAILABLE ∷ []
 
--- What it sends after i requests that were answered: the next request, if one is made.
+-- What it sends after i requests that were answered: the next request, if one is made (RFC 4252 section 5).
 abbrev pub client_next : Wording → Verdict → ℕ → Units
 client_next w v i = if nat_lt i v.requests then w.request i ∷ [] else (if i == v.requests then client_last w v.how else [])
 
@@ -133,11 +137,12 @@ client_early w guess v =
 
 -- The server answers the version line, KEXINIT and a wrong guess by nothing; KEXDH_INIT by KEXDH_REPLY and NEWKEYS; NEWKEYS by
 -- nothing; and SERVICE_REQUEST by SERVICE_ACCEPT and the BANNER, if it has one (RFC 4252 section 5.4). After these each request
--- is answered.
+-- is answered (RFC 4253 sections 7.3 and 10, RFC 4252 section 5.4).
 abbrev pub server_early : Wording → Guess → List Units
 server_early w guess = [] ∷ [] ∷ unanswered guess ++ (w.reply ∷ w.new_keys ∷ []) ∷ [] ∷ (w.service_accept ∷ w.banner) ∷ []
 
--- How many units the client receives: where no request is made, up to SERVICE_ACCEPT; else up to the answer to the last one.
+-- How many units the client receives where algorithms are common and the host key is trusted. Where no request is made, it is up to
+-- SERVICE_ACCEPT; else up to the answer to the last one, with the BANNER (RFC 4253 section 10, RFC 4252 section 5).
 abbrev pub client_receives : Wording → ℕ → ℕ
 client_receives w zero = 5
 client_receives w (suc n) = 5 + length w.banner + suc n
@@ -149,6 +154,7 @@ received_last (Success attempt) = 0
 received_last Limit = 0
 received_last Exhausted = 1
 
+-- the client's part where it makes requests (RFC 4252 section 5)
 abbrev pub client_requests : Wording → Guess → Verdict → EndData → Part
 client_requests w guess v end = record {
   first = client_first w guess;
@@ -158,7 +164,7 @@ client_requests w guess v end = record {
 }
 
 -- The server receives the version line, KEXINIT, a wrong guess, KEXDH_INIT, NEWKEYS, SERVICE_REQUEST, all requests, and a
--- DISCONNECT if the client has no more to offer.
+-- DISCONNECT if the client has no more to offer (RFC 4252 section 5).
 abbrev pub server_requests : Wording → Guess → Verdict → EndData → Part
 server_requests w guess v end = record {
   first = server_first w;
@@ -173,24 +179,25 @@ pub data Way : Type 0 where
   NoTrust : Way
   Requests : Verdict → Way
 
--- The client's part of a course that goes this way and ends so, and the server's.
+-- the client's part of a course that goes this way and ends so
 abbrev pub client_part : Wording → Guess → Way → BothEnds → Part
 client_part w guess NoChoice ends = client_no_choice w guess ends.client
 client_part w guess NoTrust ends = client_no_trust w guess ends.client
 client_part w guess (Requests v) ends = client_requests w guess v ends.client
 
+-- the server's part of a course that goes this way and ends so
 abbrev pub server_part : Wording → Guess → Way → BothEnds → Part
 server_part w guess NoChoice ends = server_no_choice w ends.server
 server_part w guess NoTrust ends = server_no_trust w guess ends.server
 server_part w guess (Requests v) ends = server_requests w guess v ends.server
 
--- The way by the choice of algorithms, and then by whether the client trusts the server's host key.
+-- The way by the choice of algorithms, and then by whether the client trusts the server's host key (RFC 4253 sections 7.1 and 8).
 abbrev pub way_by : SuiteData → DecisionsData → ClientData → ServerData → Result AlgorithmsData NoCommon → Way
 way_by m d client server (Err field) = NoChoice
 way_by m d client server (Ok algorithms) =
     if d.host_key algorithms.host_key (host_key_of_server m server algorithms.host_key) then Requests (verdict m d client server)
     else NoTrust
 
--- The way of two configs.
+-- The way of two configs (RFC 4253 sections 7.1 and 8).
 abbrev pub way_of : SuiteData → DecisionsData → ClientData → ServerData → Way
 way_of m d client server = way_by m d client server (choice m (client_offer client) (server_offer server))

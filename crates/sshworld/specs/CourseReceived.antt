@@ -12,12 +12,13 @@ use Rattle.sshworld.specs.Wording.{Wording}
 use Rattle.sshworld.specs.Worlds.{NodeData, waiting}
 
 module _ (m : SuiteData) (d : DecisionsData) (client : ClientData) (server : ServerData) (w : Wording) where
-  -- the two partners of two configs
+  -- the client of two configs as a partner
   abbrev pub client_partner : Partner
-  client_partner = record { role = Client; party = config_of_client client; part = part_of_client m d client server w }
+  client_partner = record { role = Client; config = config_of_client client; part = part_of_client m d client server w }
 
+  -- the server of two configs as a partner
   abbrev pub server_partner : Partner
-  server_partner = record { role = Server; party = config_of_server server; part = part_of_server m d client server w }
+  server_partner = record { role = Server; config = config_of_server server; part = part_of_server m d client server w }
 
   -- Both directions of their course are received.
   pub record BothReceive : Type 0 where

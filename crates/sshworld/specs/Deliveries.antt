@@ -31,7 +31,7 @@ pub record Delivered {S D : Type 0} (to : Side) (n : ℕ) (old new : WorldData S
 
 -- The next n bytes were moved to a side, and memory ran out: it has failed by that. It doesn't count those that it used of them.
 -- What it sent by that is appended to what it had sent before, so that it has sent whole packets, a prefix of those that it would
--- have sent.
+-- have sent (profile).
 pub record BreaksOff (setup : Setup) (n : ℕ) (old new opposite : NodeData) : Type 0 where
   pub failed : new.end ≡ Failed fault.Memory
   pub moved_on : new.moved ≡ old.moved + n
@@ -57,7 +57,7 @@ module _ {S D : Type 0} (meaning : S → SuiteData) (policy : D → DecisionsDat
   abbrev pub DoneAll : Side → WorldData S D → WorldData S D → Type 0
   DoneAll to old new = Done to (waiting_for to old) old new
 
-  -- the deliveries of a schedule, in order
+  -- the deliveries of a schedule, in order, each of them done; so each world between two of them keeps the headline
   abbrev pub Runs : List Delivery → WorldData S D → WorldData S D → Type 0
   Runs [] old new = new ≡ old
   Runs (d ∷ later) old new = (mid : WorldData S D) × DoneBy d old mid × Runs later mid new
@@ -66,7 +66,7 @@ module _ {S D : Type 0} (meaning : S → SuiteData) (policy : D → DecisionsDat
   abbrev pub Round : WorldData S D → WorldData S D → Type 0
   Round old new = (mid : WorldData S D) × DoneAll Server old mid × DoneAll Client mid new
 
-  -- so many rounds
+  -- so many rounds, one after another
   abbrev pub Rounds : ℕ → WorldData S D → WorldData S D → Type 0
   Rounds zero old new = new ≡ old
   Rounds (suc n) old new = (mid : WorldData S D) × Round old mid × Rounds n mid new
@@ -85,10 +85,11 @@ module _ {S D : Type 0} (meaning : S → SuiteData) (policy : D → DecisionsDat
   RunsInto [] old new = ⊥
   RunsInto (d ∷ later) old new = Refused d.to (min d.count (waiting_for d.to old)) old new ⊎ ((mid : WorldData S D) × DoneBy d old mid × RunsInto later mid new)
 
-  -- the first delivery of a round for which it was, and the first of so many rounds
+  -- the first delivery of a round for which memory ran out
   abbrev pub RoundInto : WorldData S D → WorldData S D → Type 0
   RoundInto old new = RefusedAll Server old new ⊎ ((mid : WorldData S D) × DoneAll Server old mid × RefusedAll Client mid new)
 
+  -- the first delivery of so many rounds for which memory ran out; the rounds before it were done
   abbrev pub RoundsInto : ℕ → WorldData S D → WorldData S D → Type 0
   RoundsInto zero old new = ⊥
   RoundsInto (suc n) old new = RoundInto old new ⊎ ((mid : WorldData S D) × Round old mid × RoundsInto n mid new)

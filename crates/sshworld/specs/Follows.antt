@@ -47,10 +47,11 @@ KeepsPart setup part stream =
     (units answers : Units) (end : EndData) → IsPrefix units stream → Replies setup units None answers end → IsInPart part units answers end
 
 module _ (m : SuiteData) (d : DecisionsData) (client : ClientData) (server : ServerData) (w : Wording) where
-  -- the parts of two configs, in these words
+  -- the client's part of the course of two configs, in these words
   abbrev pub part_of_client : Part
   part_of_client = client_part w (guess_of client server) (way_of m d client server) (outcome m d client server)
 
+  -- the server's part of the course of two configs, in these words
   abbrev pub part_of_server : Part
   part_of_server = server_part w (guess_of client server) (way_of m d client server) (outcome m d client server)
 

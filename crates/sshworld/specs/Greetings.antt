@@ -27,7 +27,8 @@ asked side (d ∷ ds) = count_for side d.to d.count + asked side ds
 abbrev pub moved : Side → List Delivery → List ℕ → List ℕ
 moved side schedule sent = take (asked side schedule) sent
 
--- what a side that accepts k other lines makes of the bytes
+-- What a side that accepts k other lines makes of the bytes moved to it (RFC 4253 section 4.2). It has the version exactly if a prefix is a
+-- preamble of it, and refuses exactly if the bytes are refused. Else it waits.
 pub record IsReception (k : ℕ) (bytes : List ℕ) (reception : Reception) : Type 0 where
   pub got : (text : List ℕ) → (reception ≡ Got text) ↔ BeginsPreamble k text bytes
   pub refused : (code : WireFault) → (reception ≡ Refused code) ↔ IsLineRefused k bytes code
@@ -39,7 +40,7 @@ NothingWaits bytes sent (Waiting n) = bytes ≡ sent
 NothingWaits bytes sent _ = Unit {0}
 
 -- Each side has received what the bytes moved to it read as, and both have each other's version line
--- once the schedule is complete, if they sent one.
+-- once the schedule is complete, if they sent one (RFC 4253 section 4.2).
 pub record Greets (client server : List ℕ) (schedule : List Delivery) (greeting : Greeting) : Type 0 where
   pub to_client : IsReception OTHER_LINE_LIMIT (moved Client schedule server) greeting.client
   pub to_server : IsReception 0 (moved Server schedule client) greeting.server

@@ -10,7 +10,7 @@ pub data Guess : Type 0 where
   RightGuess : Guess
   WrongGuess : Guess
 
--- by whether a guess is sent, and whether it is right
+-- the guess, by whether one is sent and whether it is right (RFC 4253 section 7)
 abbrev pub guess_by : Bool → Bool → Guess
 guess_by false right = NoGuess
 guess_by true true = RightGuess

@@ -7,7 +7,7 @@ use Rattle.sshneg.specs.Derivations.{signed_text}
 use Rattle.sshpacket.specs.Suite.{SuiteData}
 use Rattle.sshcore.specs.ConfigParts.{AttemptData, ByKey, ByNothing, ByPassword, CredentialData}
 
--- The suite holds the key of an attempt, if it has one.
+-- The suite holds the key of an attempt, if it has one (RFC 4252 section 7).
 abbrev pub IsHeld : SuiteData → CredentialData → Type 0
 IsHeld m ByNothing = Unit {0}
 IsHeld m (ByPassword password) = Unit {0}

@@ -14,13 +14,13 @@ use Rattle.sshcore.specs.Sessions.{IsSession}
 use Rattle.sshworld.specs.Worlds.{WorldData}
 
 -- Two endpoints are joined: a client and a server with these configs, one suite and the same decisions; and what either has
--- received is a prefix of what the other has sent.
+-- received is a prefix of what the other has sent (RFC 4253 section 4).
 pub record AreJoined {S D : Type 0} (meaning : S → SuiteData) (policy : D → DecisionsData) (client_config : ClientData) (server_config : ServerData) (client server : EndpointData S D)
     (client_received client_sent server_received server_sent : List ℕ) : Type 0 where
   pub is_client : client.role ≡ role.Client
   pub is_server : server.role ≡ role.Server
-  pub of_client : client.party ≡ config_of_client client_config
-  pub of_server : server.party ≡ config_of_server server_config
+  pub of_client : client.config ≡ config_of_client client_config
+  pub of_server : server.config ≡ config_of_server server_config
   pub one_suite : server.suite ≡ client.suite
   pub same_decisions : server.decisions ≡ client.decisions
   pub client_after : EndpointAfter meaning policy client client_received client_sent
@@ -42,7 +42,7 @@ pub record AreCrosswise (one other : Session) : Type 0 where
 -- The sessions of the two sides of a world that ended authenticated. Each is what an endpoint hands over, by IsSession: two endpoints
 -- are joined that have received what the sides used and have sent what the sides sent, and that stand as they do. So each session has
 -- what its side agreed on and its own version line; and where the two understood each other, the sessions match crosswise.
-pub record HaveSessions {S D : Type 0} (meaning : S → SuiteData) (policy : D → DecisionsData) (understood : Type 0) (w : WorldData S D) (a b : AgreedData) (client server : Session) : Type 0 where
+pub record HaveSessions {S D : Type 0} (meaning : S → SuiteData) (policy : D → DecisionsData) (compatible : Type 0) (w : WorldData S D) (a b : AgreedData) (client server : Session) : Type 0 where
   pub of_client : EndpointData S D
   pub of_server : EndpointData S D
   pub client_end : endpoint_end of_client ≡ w.client.end
@@ -56,9 +56,9 @@ pub record HaveSessions {S D : Type 0} (meaning : S → SuiteData) (policy : D �
   pub server_agreed : agreed_data server.agreed ≡ b
   pub client_version : client.own_version.items ≡ version_of w.client_config.side
   pub server_version : server.own_version.items ≡ version_of w.server_config.side
-  pub crosswise : understood → AreCrosswise client server
+  pub crosswise : compatible → AreCrosswise client server
 
--- both are handed over, the client's first
+-- both endpoints hand over a session, the client's first
 abbrev pub HandOver : {S D : Type 0} → (S → SuiteData) → (D → DecisionsData) → Type 0 → WorldData S D → AgreedData → AgreedData → Option (Session × Session) → Type 0
-HandOver meaning policy understood w a b None = ⊥
-HandOver meaning policy understood w a b (Some two) = HaveSessions meaning policy understood w a b two.0 two.1
+HandOver meaning policy compatible w a b None = ⊥
+HandOver meaning policy compatible w a b (Some two) = HaveSessions meaning policy compatible w a b two.0 two.1

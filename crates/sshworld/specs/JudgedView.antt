@@ -6,7 +6,7 @@ use Rattle.sshcore.specs.ConfigParts.{AttemptData, ServerData}
 use Rattle.sshcore.specs.ConfigView.{attempt_data}
 use Rattle.sshcore.specs.EndpointParts.{DecisionsData}
 use Rattle.sshcore.specs.Plan.{after_query, proving_name}
-use Rattle.sshcore.specs.Reached.{ReachedData, Tried, nothing_reached, reached_after}
+use Rattle.sshcore.specs.CompletedMethods.{CompletedMethodsData, Tried, completed_after, none_completed}
 use Rattle.sshworld.specs.declared.judge.Judged.{Judged}
 use Rattle.sshworld.specs.declared.judge.Judged.TheVariants as judged
 use Rattle.sshworld.specs.declared.progress.Progress.{Progress}
@@ -30,9 +30,9 @@ module _ {R : Type 0} where
   ends_among ends made [] = None
   ends_among ends made (request ∷ later) = first_end (ends made request) (ends_among ends (made ++ request ∷ []) later)
 
--- the methods that are reached
-abbrev pub progress_reached : Progress → ReachedData
-progress_reached p = record { user = p.user.now; service = p.service.now; password = p.password; publickey = p.publickey }
+-- the methods that are completed
+abbrev pub progress_completed : Progress → CompletedMethodsData
+progress_completed p = record { user = p.user.now; service = p.service.now; password = p.password; publickey = p.publickey }
 
 -- what a request of this attempt came to
 abbrev pub tried_as : AttemptData → Bool → Tried
@@ -45,7 +45,7 @@ tried_as attempt successful = record {
 -- These requests were made, and came to what is kept.
 pub record IsSoFar (m : SuiteData) (d : DecisionsData) (server : ServerData) (made : List AttemptData) (p : Progress) : Type 0 where
   pub counted : p.requests ≡ length made
-  pub reached : progress_reached p ≡ reached_after nothing_reached (tried_of m d server made)
+  pub completed : progress_completed p ≡ completed_after none_completed (tried_of m d server made)
 
 -- Where none of these requests ends those made, all of them are made now.
 abbrev pub IsAfter : SuiteData → DecisionsData → ServerData → List AttemptData → List AttemptData → Option Judged → Progress → Type 0

@@ -27,7 +27,7 @@ pub record Laws : Type 0 where
       → 0 < length payload → length payload ≤ PAYLOAD_LIMIT → length (written_sealed m keys seed seq payload) ≡ sealed_size m keys payload
   -- what is a preamble by the letter is read so by each form
   pub preamble : (form : LineForm) (k : ℕ) (text bytes more : List ℕ) → Preamble k text bytes → preamble_parser_by form k (bytes ++ more) ≡ whole text (length bytes)
-  pub parsers : (m : SuiteData) (role : Side) (party : ConfigData) (units : Units) (sizes : List ℕ) → IsIncremental (parsers m role party units sizes)
+  pub parsers : (m : SuiteData) (role : Side) (config : ConfigData) (units : Units) (sizes : List ℕ) → IsIncremental (parsers m role config units sizes)
   pub link : (parsers : Parsers) (spells : Units → List ℕ → List ℕ) → ((us : Units) (ns : List ℕ) → IsIncremental (parsers us ns))
       → (stream received more : List ℕ) (sent us : Units) (ns rest : List ℕ) (r : Option Refusal)
       → Sent spells stream sent → EachPlace (Spelled parsers spells) [] sent → stream ≡ received ++ more → Received parsers received us ns rest r → Linked us sent r

@@ -15,7 +15,7 @@ pub mod Rounds
 pub mod Laws
 pub mod Links
 pub mod Wordings
-pub mod Understood
+pub mod Compatible
 pub mod Placed
 pub mod Follows
 pub mod Headline

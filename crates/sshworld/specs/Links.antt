@@ -14,8 +14,8 @@ use Rattle.sshcore.specs.Directions.{others_of, preamble_of}
 use Rattle.sshcore.specs.EndpointParts.{ConfigData}
 use Rattle.sshworld.specs.Placed.{HaveSameKeys, IsInPlace}
 
--- All that is sent in one direction can be received: the two roles differ; the lines that are sent first are a preamble of the
--- version that is sent; each payload is in its place; and where NEWKEYS is sent at all, both come to the same keys.
+-- All that is sent in one direction can be received (RFC 4253 sections 4.2 and 7.3). The two roles differ. The lines that are sent first
+-- are a preamble of the version that is sent. Each payload is in its place. Where NEWKEYS is sent at all, both sides have the same keys.
 pub record CanBeReceived (m : SuiteData) (role peer : Side) (own their : ConfigData) (ours theirs : Units) : Type 0 where
   pub is_other : other role ≡ peer
   pub preamble : Preamble (others_of role) their.version (preamble_of their)

@@ -31,9 +31,9 @@ module _ {S D : Type 0} (meaning : S → SuiteData) (policy : D → DecisionsDat
   -- A node beside another that has sent these bytes: it has used what was moved to it, or what of it stands before its end; and
   -- unless memory ran out, its endpoint has received what the side used and has sent what the side sent. No call of a world ends it
   -- as its owner may.
-  pub record NodeStands (role : Side) (party : ConfigData) (suite : S) (decisions : D) (node : Node S D) (their_sent : List ℕ) : Type 0 where
+  pub record NodeStands (role : Side) (config : ConfigData) (suite : S) (decisions : D) (node : Node S D) (their_sent : List ℕ) : Type 0 where
     pub is_role : node.endpoint.role ≡ role
-    pub is_config : node.endpoint.party ≡ party
+    pub is_config : node.endpoint.config ≡ config
     pub is_suite : node.endpoint.suite ≡ suite
     pub is_decisions : node.endpoint.decisions ≡ decisions
     pub used_within : node.used ≤ node.moved
@@ -43,8 +43,8 @@ module _ {S D : Type 0} (meaning : S → SuiteData) (policy : D → DecisionsDat
     pub uncut : by_owner (endpoint_end node.endpoint) ≡ false
 
   -- a node that has received nothing, and has sent its first output
-  pub record IsFresh (role : Side) (party : ConfigData) (suite : S) (decisions : D) (node : Node S D) : Type 0 where
-    pub made : EndpointMade meaning policy role party suite decisions node.endpoint [] node.sent.items
+  pub record IsFresh (role : Side) (config : ConfigData) (suite : S) (decisions : D) (node : Node S D) : Type 0 where
+    pub made : EndpointMade meaning policy role config suite decisions node.endpoint [] node.sent.items
     pub none_moved : node.moved ≡ 0
     pub none_used : node.used ≡ 0
 

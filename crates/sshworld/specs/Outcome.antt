@@ -32,7 +32,7 @@ pub data Case : Type 0 where
   NoneLeft : Case
 
 -- How both end in each case: the side that finds a failure has failed by it, and the other is closed by its DISCONNECT, with
--- this reason (RFC 4253 section 11.1). That nothing is common both find.
+-- this reason (RFC 4253 section 11.1). That nothing is common both find (which failure has which reason is profile).
 abbrev pub ends_of_case : Case → BothEnds
 ends_of_case (NothingCommon field) = record { client = Failed (fault.NoCommon field); server = Failed (fault.NoCommon field) }
 ends_of_case HostKeyRefused = record { client = Failed fault.HostKey; server = Closed SSH_DISCONNECT_HOST_KEY_NOT_VERIFIABLE }

@@ -20,20 +20,22 @@ use Rattle.sshworld.specs.Worlds.{HasReplied, NodeData}
 -- One of the two in a course: its role, what its endpoint is made of, and its part.
 pub record Partner : Type 0 where
   pub role : Side
-  pub party : ConfigData
+  pub config : ConfigData
   pub part : Part
 
+-- the setup of a partner's endpoint
 abbrev pub partner_setup : SuiteData → DecisionsData → Partner → Setup
-partner_setup m d p = setup_with m d p.role p.party
+partner_setup m d p = setup_with m d p.role p.config
 
--- all payloads that it sends, and all units
+-- all payloads that a partner sends
 abbrev pub payloads_of : Partner → Units
 payloads_of p = sent_after p.part p.part.receives
 
+-- all units that a partner sends: its version line, then its payloads
 abbrev pub stream_of : Partner → Units
-stream_of p = units_of p.party p.part
+stream_of p = units_of p.config p.part
 
--- An endpoint that stands so has received and sent these bytes: they are such units and answers.
+-- An endpoint that stands so has received and sent these bytes: they are such units and answers (RFC 4253 sections 4 to 11).
 pub record HasHistory (setup : Setup) (end : EndData) (received_bytes sent_bytes : List ℕ) : Type 0 where
   pub units : Units
   pub sizes : List ℕ
@@ -42,14 +44,14 @@ pub record HasHistory (setup : Setup) (end : EndData) (received_bytes sent_bytes
   pub answers : Units
   pub history : History setup units sizes rest refusal answers end received_bytes sent_bytes
 
--- what it has received and sent, in units
+-- what a partner's endpoint has received and sent, in units
 abbrev pub told : {setup : Setup} {end : EndData} {h s : List ℕ} → HasHistory setup end h s → Told
 told {end = end} a = record { units = a.units; answers = a.answers; end = end }
 
 -- One direction of a course: all that the other sends can be received, and the other keeps its part whatever it has received of
 -- what the own side sends.
 pub record ReceivesCourse (m : SuiteData) (d : DecisionsData) (own their : Partner) : Type 0 where
-  pub received : CanBeReceived m own.role their.role own.party their.party (payloads_of own) (payloads_of their)
+  pub received : CanBeReceived m own.role their.role own.config their.config (payloads_of own) (payloads_of their)
   pub keeps : KeepsPart (partner_setup m d their) their.part (stream_of own)
 
 -- A side has used what was moved to it, up to its end; and unless memory ran out, it has a history with the bytes that it used

@@ -2,7 +2,7 @@
 
 use Rattle.std.specs.Prelude.{◌≡◌, ◌==◌, ℕ, true, List, []}
 use Rattle.sshmsg.specs.declared.numbers.TheConstants.{SSH_MSG_NEWKEYS}
-use Rattle.sshmsg.specs.Numbers.{kind}
+use Rattle.sshmsg.specs.Numbers.{message_number}
 use Rattle.sshneg.specs.declared.side.Side.{Side}
 use Rattle.sshneg.specs.declared.side.Side.TheVariants.{Client, Server}
 use Rattle.sshpacket.specs.Places.{EachPlace}
@@ -21,19 +21,20 @@ use Rattle.sshworld.specs.Wordings.{wording_of}
 -- NEWKEYS is never dropped, and what the other side sends after its NEWKEYS finds that the exchange was received (RFC 4253
 -- sections 7 and 7.3).
 pub record IsInPlace (role : Side) (own : ConfigData) (before : Units) (payload : List ℕ) : Type 0 where
-  pub switch : kept role own.offer SSH_MSG_NEWKEYS before payload ≡ (kind payload == SSH_MSG_NEWKEYS)
+  pub switch : kept role own.offer SSH_MSG_NEWKEYS before payload ≡ (message_number payload == SSH_MSG_NEWKEYS)
   pub ready : switched_out before ≡ true → IsReady role own before
 
--- All payloads that each side sends in the course of two configs.
+-- all payloads that the client sends in the course of two configs
 abbrev pub sent_by_client : SuiteData → DecisionsData → ClientData → ServerData → Units
 sent_by_client m d client server =
     sent_after (part_of_client m d client server (wording_of m d client server)) (part_of_client m d client server (wording_of m d client server)).receives
 
+-- all payloads that the server sends in the course of two configs
 abbrev pub sent_by_server : SuiteData → DecisionsData → ClientData → ServerData → Units
 sent_by_server m d client server =
     sent_after (part_of_server m d client server (wording_of m d client server)) (part_of_server m d client server (wording_of m d client server)).receives
 
--- All that either side sends is in its place where the other receives it.
+-- All that either side sends is in its place where the other receives it (RFC 4253 sections 7 and 7.3).
 pub record BothInPlace (m : SuiteData) (d : DecisionsData) (client : ClientData) (server : ServerData) : Type 0 where
   pub received_by_client : EachPlace (IsInPlace Client (config_of_client client)) [] (sent_by_server m d client server)
   pub received_by_server : EachPlace (IsInPlace Server (config_of_server server)) [] (sent_by_client m d client server)

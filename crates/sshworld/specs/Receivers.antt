@@ -24,7 +24,7 @@ pub record ReceiverStands (k : ℕ) (received : List ℕ) (receiver : Receiver) 
   pub counted : receiver.moved ≡ length received
   pub follows : Follows k received receiver.reader.progress receiver.reception
 
--- it has ended, or waits in so many bytes
+-- the reader has ended, or waits in so many bytes
 abbrev pub HasAll : Reception → ℕ → Type 0
 HasAll (reception.Waiting n) len = n ≡ len
 HasAll _ len = Unit {0}

@@ -50,6 +50,7 @@ pub record IsCourse (client server : Part) : Type 0 where
   pub client_ends : client.final ≢ Open
   pub server_ends : server.final ≢ Open
 
+-- the group is empty
 abbrev pub is_nothing : Units → Bool
 is_nothing [] = true
 is_nothing (payload ∷ payloads) = false

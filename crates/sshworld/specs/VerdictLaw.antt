@@ -30,8 +30,8 @@ module _ {R : Type 0} (ends : List R → R → Option How) where
     AtOne : EndsAt requests v → IsVerdict requests v
     AtNone : EndsWithout requests v → IsVerdict requests v
 
--- How many of the requests that are offered are made: no more than are offered; if none, then none is offered, and the client has
--- no more to offer; and all, if it has no more to offer in the end.
+-- How many of the offered requests are made (RFC 4252 section 5). No more than are offered. If none is made, none is offered, and the
+-- client has no more to offer. If the client has no more to offer in the end, all are made.
 pub record IsCounted (offered : ℕ) (v : Verdict) : Type 0 where
   pub most : v.requests ≤ offered
   pub none_offered : v.requests ≡ 0 → offered ≡ 0

@@ -7,7 +7,7 @@ use Rattle.sshpacket.specs.Suite.{SuiteData}
 use Rattle.sshcore.specs.ConfigParts.{AttemptData, ClientData, ServerData}
 use Rattle.sshcore.specs.EndpointParts.{DecisionsData}
 use Rattle.sshcore.specs.Plan.{proving_name}
-use Rattle.sshcore.specs.Reached.{Tried, are_reached}
+use Rattle.sshcore.specs.CompletedMethods.{Tried, are_completed}
 use Rattle.sshworld.specs.Judging.{is_successful}
 use Rattle.sshworld.specs.Offered.{offered}
 
@@ -28,7 +28,7 @@ tried_of m d server requests = flat_places (λ made attempt. tried_by m d server
 -- run of requests for its user and its service that it ends.
 abbrev pub is_accepted : SuiteData → DecisionsData → ServerData → List AttemptData → AttemptData → Bool
 is_accepted m d server made attempt =
-    is_successful m d server (length made + 1) attempt && are_reached server.required attempt.user attempt.service (tried_of m d server (made ++ attempt ∷ []))
+    is_successful m d server (length made + 1) attempt && are_completed server.required attempt.user attempt.service (tried_of m d server (made ++ attempt ∷ []))
 
 -- How requests of authentication end: at one for a service that the server doesn't have; at one that is accepted; at the
 -- last that the server grants; or at none of them, and the client has no more to offer.

@@ -18,7 +18,7 @@ pub record WireEnd (S D : Type 0) : Type 0 where
   pub sent : Vec ℕ Global
   pub used : ℕ
 
--- the same as a node of a world, to which those bytes were moved that it has used
+-- an end of a wire as a node of a world, to which the bytes were moved that it has used
 abbrev pub wire_node : {S D : Type 0} → WireEnd S D → Node S D
 wire_node e = record { endpoint = e.endpoint; sent = e.sent; moved = e.used; used = e.used }
 

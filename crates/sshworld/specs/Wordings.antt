@@ -48,14 +48,17 @@ answer_by m methods proved (ByKey algorithm secret false) = UserauthFailure meth
 answer_by m methods proved (ByKey algorithm secret true) =
     if proved then UserauthPkOk algorithm (m.blob algorithm secret) else UserauthFailure methods false
 
+-- the server's answer to this attempt's request after those made, if it ends nothing
 abbrev pub answer_to : SuiteData → DecisionsData → ServerData → List AttemptData → AttemptData → MessageData
 answer_to m d server made attempt = answer_by m server.methods (is_proved m d server (length made + 1) attempt) attempt.proving
 
+-- the server's answer to the next request as a payload; no byte where none is made
 abbrev pub answer_or : SuiteData → DecisionsData → ServerData → List AttemptData → Option AttemptData → List ℕ
 answer_or m d server made (Some attempt) = written_message (answer_to m d server made attempt)
 answer_or m d server made None = []
 
--- The payloads of a course with these algorithms, in which the client makes its share for this method.
+-- The payloads of a course with these algorithms, in which the client makes its share for this method (RFC 4253 sections 7 to 10, RFC 4252
+-- sections 5, 5.1 and 5.4).
 abbrev pub wording_with : SuiteData → DecisionsData → ClientData → ServerData → List ℕ → AlgorithmsData → Wording
 wording_with m d client server kex algorithms = record {
   client_offer = written_message (KexInit (client_offer client));

@@ -11,7 +11,7 @@ use Rattle.sshworld.specs.Partners.{BothOnCourse}
 use Rattle.sshworld.specs.Headline.{Headline}
 use Rattle.sshworld.specs.Outcome.{outcome}
 use Rattle.sshworld.specs.Nodes.{NodesStand, seen}
-use Rattle.sshworld.specs.Understood.{AreUnderstood}
+use Rattle.sshworld.specs.Compatible.{AreCompatible}
 use Rattle.sshworld.specs.Wordings.{wording_of}
 use Rattle.sshworld.specs.Worlds.{Complete, HadMemory, WorldData}
 
@@ -20,24 +20,25 @@ module _ {S D : Type 0} (meaning : S → SuiteData) (policy : D → DecisionsDat
   abbrev pub ReceivesAll : Type 0
   ReceivesAll = BothReceive (meaning w.suite) (policy w.decisions) w.client_config w.server_config (wording_of (meaning w.suite) (policy w.decisions) w.client_config w.server_config)
 
-  -- where they do, both are on it
+  -- where both sides receive all that the other sends in the course, both are on it
   abbrev pub IsOnCourse : Type 0
   IsOnCourse = ReceivesAll → BothOnCourse (meaning w.suite) (policy w.decisions)
       (client_partner (meaning w.suite) (policy w.decisions) w.client_config w.server_config (wording_of (meaning w.suite) (policy w.decisions) w.client_config w.server_config))
       (server_partner (meaning w.suite) (policy w.decisions) w.client_config w.server_config (wording_of (meaning w.suite) (policy w.decisions) w.client_config w.server_config)) w.client w.server
 
-  -- The two ends understand each other: what the configs ask of the suite is true of it.
-  abbrev pub AreUnderstoodIn : Type 0
-  AreUnderstoodIn = AreUnderstood (meaning w.suite) (policy w.decisions) w.client_config w.server_config
+  -- The two ends understand each other: what the configs ask of the suite is true of it (RFC 4253 section 8, RFC 4252 section 7).
+  abbrev pub AreCompatibleIn : Type 0
+  AreCompatibleIn = AreCompatible (meaning w.suite) (policy w.decisions) w.client_config w.server_config
 
   -- Where the two ends understand each other, and neither ran out of memory, both sides are in the course of their configs.
   abbrev pub KeepsCourse : Type 0
-  KeepsCourse = AreUnderstoodIn → HadMemory w
+  KeepsCourse = AreCompatibleIn → HadMemory w
       → IsCourseReceived (meaning w.suite) (policy w.decisions) w.client_config w.server_config (wording_of (meaning w.suite) (policy w.decisions) w.client_config w.server_config) w.client w.server
 
-  -- And each that has ended has the end that the outcome gives; and where nothing waits for either, both have ended.
+  -- Where both ends understand each other and neither ran out of memory, each side that has ended has the end that the outcome gives. Where
+  -- nothing waits for either, both have ended, and one is authenticated exactly if the other is.
   abbrev pub KeepsHeadline : Type 0
-  KeepsHeadline = AreUnderstoodIn → HadMemory w
+  KeepsHeadline = AreCompatibleIn → HadMemory w
       → Headline (outcome (meaning w.suite) (policy w.decisions) w.client_config w.server_config) w.client.end w.server.end (Complete w)
 
   -- What is true of every world: its configs were accepted; each side has replied to what was moved to it; both are in the course of
@@ -50,7 +51,8 @@ module _ {S D : Type 0} (meaning : S → SuiteData) (policy : D → DecisionsDat
     pub headline : KeepsHeadline
 
 module _ {S D : Type 0} (meaning : S → SuiteData) (policy : D → DecisionsData) where
-  -- The invariant of a world: its configs were accepted, its nodes stand, and they are on the course of the configs.
+  -- The invariant of a world, which contracts don't see: its configs were accepted, its nodes stand, and they are on the course of the
+  -- configs.
   pub record WorldStands (client_config : ClientData) (server_config : ServerData) (suite : S) (decisions : D) (client server : Node S D) : Type 0 where
     pub client_accepted : IsClient client_config
     pub server_accepted : IsServer server_config

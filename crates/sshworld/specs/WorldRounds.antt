@@ -14,7 +14,7 @@ use Rattle.sshworld.specs.Partners.{HasHistory}
 use Rattle.sshworld.specs.Rounds.{UnitsReceived, after_rounds, round_from, server_receives_all}
 use Rattle.sshworld.specs.Wording.{Wording}
 use Rattle.sshworld.specs.Wordings.{wording_of}
-use Rattle.sshworld.specs.WorldCourse.{AreUnderstoodIn, IsOnCourse, ReceivesAll, WorldHolds}
+use Rattle.sshworld.specs.WorldCourse.{AreCompatibleIn, IsOnCourse, ReceivesAll, WorldHolds}
 use Rattle.sshworld.specs.Worlds.{Complete, HadMemory, IsSameSetup, NodeData, WorldData, waiting_for}
 
 -- what both have received when all that waits was moved to one side
@@ -28,10 +28,11 @@ pub record HaveReceived (m : SuiteData) (d : DecisionsData) (client : ClientData
   pub by_server : (b : HasHistory (server_setup m d server) of_server.end (take of_server.used of_client.sent) of_server.sent) → received.server ≤ length b.units
 
 module _ {S D : Type 0} (meaning : S → SuiteData) (policy : D → DecisionsData) (w : WorldData S D) where
-  -- the two parts of the course
+  -- the client's part of the course of this world
   abbrev pub part_of_client_in : Part
   part_of_client_in = part_of_client (meaning w.suite) (policy w.decisions) w.client_config w.server_config (wording_of (meaning w.suite) (policy w.decisions) w.client_config w.server_config)
 
+  -- the server's part of the course of this world
   abbrev pub part_of_server_in : Part
   part_of_server_in = part_of_server (meaning w.suite) (policy w.decisions) w.client_config w.server_config (wording_of (meaning w.suite) (policy w.decisions) w.client_config w.server_config)
 
@@ -41,7 +42,7 @@ module _ {S D : Type 0} (meaning : S → SuiteData) (policy : D → DecisionsDat
 
   -- Where each has received what so many rounds of the course bring, and those are enough, nothing waits for either.
   abbrev pub Settles : Type 0
-  Settles = AreUnderstoodIn meaning policy w → HadMemory w → (r : ℕ) → most_requests w.client_config.plan + 4 ≤ r
+  Settles = AreCompatibleIn meaning policy w → HadMemory w → (r : ℕ) → most_requests w.client_config.plan + 4 ≤ r
       → HaveReceivedIn (after_rounds part_of_client_in part_of_server_in r) → Complete w
 
 module _ {S D : Type 0} (meaning : S → SuiteData) (policy : D → DecisionsData) where

@@ -40,11 +40,12 @@ pub record IsSameSetup {S D : Type 0} (old new : WorldData S D) : Type 0 where
   pub same_suite : new.suite ≡ old.suite
   pub same_decisions : new.decisions ≡ old.decisions
 
--- This side's node, and the other's.
+-- the node of this side
 abbrev pub node_at : {S D : Type 0} → Side → WorldData S D → NodeData
 node_at side.Client w = w.client
 node_at side.Server w = w.server
 
+-- the node of the other side
 abbrev pub node_opposite : {S D : Type 0} → Side → WorldData S D → NodeData
 node_opposite side.Client w = w.server
 node_opposite side.Server w = w.client
@@ -62,9 +63,11 @@ waiting_at (Failed f) sent moved = 0
 waiting_at (Closed reason) sent moved = 0
 waiting_at (Disconnected reason) sent moved = 0
 
+-- how many bytes wait for a node, of those that its opposite has sent
 abbrev pub waiting : NodeData → NodeData → ℕ
 waiting own their = waiting_at own.end (length their.sent) own.moved
 
+-- how many bytes wait for a side of a world
 abbrev pub waiting_for : {S D : Type 0} → Side → WorldData S D → ℕ
 waiting_for to w = waiting (node_at to w) (node_opposite to w)
 

@@ -9,10 +9,10 @@ ghost use Rattle.sshcore.specs.Chosen.{AreAt, AreNamed, ArePlaced};
 ghost use Rattle.sshcore.specs.EndData.{agreed_data};
 ghost use Rattle.sshworld.specs.AlgorithmsView.{agreed_with, algorithms_copied, algorithms_named};
 
-use crate::owned::beside;
 use sshcore::{Agreed, Attempt};
 use sshmsg::KexInit;
 use sshneg::Chosen;
+use sshwire::owned::beside;
 use sshwire::{Memory, NameList};
 use std::alloc::Global;
 

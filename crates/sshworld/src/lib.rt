@@ -15,7 +15,6 @@ mod judge;
 mod law;
 mod link_laws;
 mod node;
-mod owned;
 mod predicted_ends;
 mod prediction;
 mod progress;

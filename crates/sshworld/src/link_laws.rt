@@ -6,7 +6,7 @@ ghost use Rattle.sshcore.specs.ConfigRules.{IsClient, IsServer};
 ghost use Rattle.sshcore.specs.EndpointParts.{DecisionsData};
 ghost use Rattle.sshworld.specs.CourseReceived.{BothReceive};
 ghost use Rattle.sshworld.specs.Laws.{Laws};
-ghost use Rattle.sshworld.specs.Understood.{AreUnderstood};
+ghost use Rattle.sshworld.specs.Compatible.{AreCompatible};
 ghost use Rattle.sshworld.specs.Wordings.{wording_of};
 
 use crate::following::{follows_law, keeps_law};
@@ -24,7 +24,7 @@ pub(crate) fn below_law()
 /// The law of receiving: of two accepted configs whose ends understand each other, each receives all
 /// that the other sends in their course. Takes no memory.
 pub(crate) fn course_receiving_law()
-    ensures receive { (m : SuiteData) (d : DecisionsData) (client : ClientData) (server : ServerData) → IsLawful m → AreUnderstood m d client server
+    ensures receive { (m : SuiteData) (d : DecisionsData) (client : ClientData) (server : ServerData) → IsLawful m → AreCompatible m d client server
         → IsClient client → IsServer server → BothReceive m d client server (wording_of m d client server) }
 {
     follows_law();

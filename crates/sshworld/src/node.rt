@@ -10,10 +10,10 @@ ghost use Rattle.sshworld.specs.Nodes.{BrokenWith, IsFed, IsFresh, Takes};
 ghost use Rattle.sshworld.specs.Worlds.{waiting_at};
 
 use crate::drawn::{DrawnClient, DrawnServer};
-use crate::owned::beside;
 use sshcore::{Decisions, End, Endpoint};
 use sshpacket::Suite;
 use sshwire::Memory;
+use sshwire::owned::beside;
 use std::alloc::Global;
 
 /// An endpoint, all that it has sent, how many of the other's bytes were moved to it, and how many of

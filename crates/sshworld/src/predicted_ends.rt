@@ -15,12 +15,12 @@ ghost use Rattle.sshworld.specs.Verdicts.{verdict};
 use crate::algorithms::{AlgorithmNames, agreed};
 use crate::drawn::{DrawnClient, DrawnServer};
 use crate::judge::{Judged, judge};
-use crate::owned::beside;
 use crate::session::session;
 use sshcore::{Attempt, Decisions, End, Fault, HostKey, ServerConfig};
 use sshmsg::{SSH_DISCONNECT_NO_MORE_AUTH_METHODS_AVAILABLE, SSH_DISCONNECT_SERVICE_NOT_AVAILABLE};
 use sshpacket::Suite;
 use sshwire::Memory;
+use sshwire::owned::beside;
 use std::alloc::Global;
 
 /// How both end, where the client trusts the host key and the requests end so.

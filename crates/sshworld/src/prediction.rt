@@ -22,7 +22,7 @@ use std::alloc::Global;
 /// How a client and a server of these configs end, the client's end first: without a message, where
 /// both use this suite and these decisions, and all that either sends reaches the other.
 ///
-/// Its premise is that the two understand each other (`AreUnderstood`): both come to one shared secret,
+/// Its premise is that the two understand each other (`AreCompatible`): both come to one shared secret,
 /// and the keys sign. It isn't looked at here: where it doesn't hold, two endpoints may end otherwise. So
 /// they may where either ran out of memory, or its input ends before.
 ///

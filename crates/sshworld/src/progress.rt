@@ -6,9 +6,9 @@ ghost use Rattle.sshcore.specs.ConfigParts as config_parts;
 ghost use Rattle.sshcore.specs.ConfigView.{attempt_data};
 ghost use Rattle.sshcore.specs.EndpointParts.{DecisionsData};
 ghost use Rattle.sshcore.specs.Plan.{after_query};
-ghost use Rattle.sshcore.specs.Reached.{has_reached, is_complete, reached_after_one};
+ghost use Rattle.sshcore.specs.CompletedMethods.{completed_after_one, has_completed, is_complete};
 ghost use Rattle.sshpacket.specs.Suite.{SuiteData};
-ghost use Rattle.sshworld.specs.JudgedView.{IsAfter, IsSoFar, how_of, progress_reached, tried_as};
+ghost use Rattle.sshworld.specs.JudgedView.{IsAfter, IsSoFar, how_of, progress_completed, tried_as};
 ghost use Rattle.sshworld.specs.Judging.{is_successful};
 ghost use Rattle.sshworld.specs.Verdicts.{ends_by};
 
@@ -16,7 +16,7 @@ use crate::judge::{Judged, has};
 use sshcore::{Attempt, ServerConfig};
 
 /// What the requests came to that are judged so far: how many they are, and which of the methods that
-/// can be required the last of them reached, for one user and one service (RFC 4252 section 5.1).
+/// can be required the last of them completed, for one user and one service (RFC 4252 section 5.1).
 #[derive(Clone, Copy)]
 pub(crate) struct Progress<'a> {
     /// How many they are.
@@ -76,11 +76,11 @@ impl<'a> Progress<'a> {
     }
 
     /// Counts a request of this attempt: one for another user or another service empties what was
-    /// reached, and a successful one adds its method.
+    /// completed, and a successful one adds its method.
     fn count(&mut self, attempt: &'a Attempt, successful: bool)
         requires few { self.old.requests ≤ 127 }
         ensures counted { self.new.requests ≡ self.old.requests + 1 }
-        ensures reached { progress_reached self.new ≡ reached_after_one (progress_reached self.old) (tried_as (attempt_data attempt.now) successful) }
+        ensures completed { progress_completed self.new ≡ completed_after_one (progress_completed self.old) (tried_as (attempt_data attempt.now) successful) }
     {
         self.requests += 1;
         if self.user != attempt.user.as_str() || self.service != attempt.service.as_str() {
@@ -96,24 +96,26 @@ impl<'a> Progress<'a> {
         }
     }
 
-    /// Whether all required methods are reached.
+    /// Whether all required methods are completed.
     fn is_complete(&self, server: &ServerConfig) -> bool
-        ensures { result ≡ is_complete server.now.required (progress_reached self.now) }
+        ensures { result ≡ is_complete server.now.required (progress_completed self.now) }
     {
-        are_reached(&server.parts().required, self)
+        are_completed(&server.parts().required, self)
     }
 }
 
-/// Whether all these methods are reached.
-fn are_reached(required: &[String], progress: &Progress<'_>) -> bool
-    ensures { result ≡ list_all (λ own. has_reached (progress_reached progress.now) (string_bytes own)) required.now }
+/// Whether all these methods are completed.
+fn are_completed(required: &[String], progress: &Progress<'_>) -> bool
+    ensures { result ≡ list_all (λ own. has_completed (progress_completed progress.now) (string_bytes own)) required.now }
 {
-    required.iter().all(|method| has_reached(method, progress))
+    required
+        .iter()
+        .all(|method| has_completed(method, progress))
 }
 
-/// Whether this method is reached.
-fn has_reached(method: &str, progress: &Progress<'_>) -> bool
-    ensures { result ≡ has_reached (progress_reached progress.now) method.now }
+/// Whether this method is completed.
+fn has_completed(method: &str, progress: &Progress<'_>) -> bool
+    ensures { result ≡ has_completed (progress_completed progress.now) method.now }
 {
     method == "password" && progress.password || method == "publickey" && progress.publickey
 }

@@ -10,7 +10,7 @@ ghost use Rattle.sshcore.specs.Endpoints.{endpoint_end};
 ghost use Rattle.sshcore.specs.Sessions.{IsSession};
 ghost use Rattle.sshworld.specs.Conversed.{EachReplies};
 ghost use Rattle.sshworld.specs.Joined.{AreCrosswise, AreJoined};
-ghost use Rattle.sshworld.specs.Understood.{AreUnderstood};
+ghost use Rattle.sshworld.specs.Compatible.{AreCompatible};
 ghost use Rattle.sshworld.specs.Worlds.{WorldData};
 
 use crate::link_laws::{below_law, course_receiving_law};
@@ -23,13 +23,13 @@ use sshpacket::Suite;
 pub fn session_law<S: Suite, D: Decisions>()
     // Each has received all that the other has sent, and both agreed on the same.
     ensures received { (client_config : ClientData) (server_config : ServerData) (client server : EndpointData S D) (client_received client_sent server_received server_sent : List ℕ)
-        → IsClient client_config → IsServer server_config → AreUnderstood (S.meaning client.suite) (D.policy client.decisions) client_config server_config
+        → IsClient client_config → IsServer server_config → AreCompatible (S.meaning client.suite) (D.policy client.decisions) client_config server_config
         → AreJoined S.meaning D.policy client_config server_config client server client_received client_sent server_received server_sent
         → (a b : AgreedData) → endpoint_end client ≡ Authenticated a → endpoint_end server ≡ Authenticated b
         → (client_received ≡ server_sent) × (server_received ≡ client_sent) × (a ≡ b) }
     // The sessions of what both have received and sent match crosswise.
     ensures crosswise { (client_config : ClientData) (server_config : ServerData) (client server : EndpointData S D) (client_received client_sent server_received server_sent : List ℕ)
-        → IsClient client_config → IsServer server_config → AreUnderstood (S.meaning client.suite) (D.policy client.decisions) client_config server_config
+        → IsClient client_config → IsServer server_config → AreCompatible (S.meaning client.suite) (D.policy client.decisions) client_config server_config
         → (j : AreJoined S.meaning D.policy client_config server_config client server client_received client_sent server_received server_sent)
         → (a b : AgreedData) → endpoint_end client ≡ Authenticated a → endpoint_end server ≡ Authenticated b
         → (one other : Session) → IsSession (endpoint_setup S.meaning D.policy client) j.client_after.units j.client_after.answers j.client_after.sizes a one

@@ -10,7 +10,7 @@ ghost use Rattle.sshcore.specs.Endpoints.{EndpointMade, endpoint_end};
 ghost use Rattle.sshcore.specs.EndpointParts.{config_of_client, config_of_server};
 ghost use Rattle.sshworld.specs.Headline.{Headline};
 ghost use Rattle.sshworld.specs.Outcome.{outcome};
-ghost use Rattle.sshworld.specs.Understood.{AreUnderstood};
+ghost use Rattle.sshworld.specs.Compatible.{AreCompatible};
 ghost use Rattle.sshworld.specs.Wire.{AreOnWire, HaveUsedAll, UsesMore, WireEnd};
 
 use crate::link_laws::{below_law, course_receiving_law};
@@ -36,7 +36,7 @@ pub fn wire_law<S: Suite, D: Decisions>()
     // Where they understand each other, each that has ended has the end of the outcome; and where each that is open has used all
     // that the other has sent, both have ended.
     ensures ends { (client_config : ClientData) (server_config : ServerData) (suite : S) (decisions : D) (client server : WireEnd S D)
-        → AreUnderstood (S.meaning suite) (D.policy decisions) client_config server_config
+        → AreCompatible (S.meaning suite) (D.policy decisions) client_config server_config
         → AreOnWire S.meaning D.policy client_config server_config suite decisions client server
         → Headline (outcome (S.meaning suite) (D.policy decisions) client_config server_config) (endpoint_end client.endpoint) (endpoint_end server.endpoint) (HaveUsedAll client server) }
 {

@@ -7,20 +7,20 @@ ghost use Rattle.sshworld.specs.Conversed.{IsNew};
 ghost use Rattle.sshworld.specs.Offered.{most_requests};
 ghost use Rattle.sshworld.specs.Deliveries.{Delivered, DoneAll, Refused, RefusedAll, Round, RoundInto, Rounds, RoundsInto, Runs, RunsInto};
 ghost use Rattle.sshworld.specs.Joined.{HandOver};
-ghost use Rattle.sshworld.specs.WorldCourse.{AreUnderstoodIn, ReceivesAll, WorldHolds};
+ghost use Rattle.sshworld.specs.WorldCourse.{AreCompatibleIn, ReceivesAll, WorldHolds};
 ghost use Rattle.sshworld.specs.WorldRounds.{Keeps, Moves, ReceivesRound, ReceivesTurn, Settles};
 ghost use Rattle.sshworld.specs.Worlds.{Complete, HadMemory, IsSameSetup, node_at, waiting_for};
 
 use crate::drawn::{DrawnClient, DrawnServer};
 use crate::link_laws::{below_law, course_receiving_law};
 use crate::node::{Node, nodes};
-use crate::owned::beside;
 use crate::session_laws::session_law;
 use crate::side::Delivery;
 use sshcore::{ClientConfig, Decisions, Draws, End, ServerConfig, Session};
 use sshneg::Side;
 use sshpacket::Suite;
 use sshwire::Memory;
+use sshwire::owned::beside;
 use std::alloc::Global;
 use std::marker::Model;
 
@@ -129,7 +129,7 @@ impl<'a, S: Suite, D: Decisions> World<'a, S, D> {
     /// What is true of every world. Takes no memory.
     fn holds(&self)
         ensures holds { WorldHolds S.meaning D.policy self.now }
-        ensures understands { AreUnderstoodIn S.meaning D.policy self.now → ReceivesAll S.meaning D.policy self.now }
+        ensures understands { AreCompatibleIn S.meaning D.policy self.now → ReceivesAll S.meaning D.policy self.now }
         ensures settles { Settles S.meaning D.policy self.now }
     {
         below_law();
@@ -235,7 +235,7 @@ impl<'a, S: Suite, D: Decisions> World<'a, S, D> {
         ensures holds { WorldHolds S.meaning D.policy self.new }
         // Four rounds more than the client's plan has requests at the most (two of an attempt that asks first, one of any other) leave a
         // complete world, from any world that had memory and of which the two ends understand each other.
-        ensures bound { OnOk result (AreUnderstoodIn S.meaning D.policy self.old → HadMemory self.old → most_requests self.old.client_config.plan + 4 ≤ rounds → Complete self.new) }
+        ensures bound { OnOk result (AreCompatibleIn S.meaning D.policy self.old → HadMemory self.old → most_requests self.old.client_config.plan + 4 ≤ rounds → Complete self.new) }
     {
         for _ in 0..rounds {
             self.round()?;
@@ -267,7 +267,7 @@ impl<'a, S: Suite, D: Decisions> World<'a, S, D> {
     /// Each is the session of an endpoint that has received and sent what its side has. Where the two ends understand each other the sessions match crosswise. Takes no memory.
     pub fn into_sessions(self) -> Option<(Session, Session)>
         ensures sessions { (a b : AgreedData) → self.entry.client.end ≡ Authenticated a → self.entry.server.end ≡ Authenticated b
-            → HandOver S.meaning D.policy (AreUnderstoodIn S.meaning D.policy self.entry) self.entry a b result }
+            → HandOver S.meaning D.policy (AreCompatibleIn S.meaning D.policy self.entry) self.entry a b result }
         ensures none { ((a b : AgreedData) → self.entry.client.end ≡ Authenticated a → self.entry.server.end ≢ Authenticated b) → result ≡ None }
     {
         session_law::<S, D>();

@@ -1,5 +1,5 @@
 use Rattle.std.proofs.Common.{◌≡◌, IfOk, subst, sym}
-use Rattle.sshcore.specs.declared.question.Question.{Question}
+use Rattle.sshcore.specs.declared.asking_question.Question.{Question}
 use Rattle.sshcore.specs.QuestionsView.{question_data}
 use Rattle.rezdolin.specs.Questions.{question_bytes}
 use Rattle.rezdolin.proofs.StepLemmas.{if_ok}

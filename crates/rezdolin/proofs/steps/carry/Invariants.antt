@@ -2,7 +2,7 @@ use Rattle.std.proofs.Common.{◌≡◌, ◌≢◌, ◌<◌, ◌≤◌, None, le
 use Rattle.sshcore.specs.Asking.{asked_by, asking_end}
 use Rattle.sshcore.specs.EndData.{Open}
 use Rattle.sshcore.specs.EndpointParts.{DecisionsData}
-use Rattle.rezdolin.specs.Carried.{CarriesOn}
+use Rattle.rezdolin.specs.CarriedOn.{CarriesOn}
 use Rattle.rezdolin.specs.Endpoints.{means}
 use Rattle.rezdolin.specs.Trust.{trust_policy}
 use Rattle.rezdolin.proofs.steps.carry.Given as goal

@@ -12,14 +12,14 @@ pub returns-clause-steps : goal.returns-clause-steps
 returns-clause-steps g c =
     let m = g.S.Suite.meaning c.args.suite.now in
     let role = role_of c.args.config.now in
-    let party = config_data c.args.config.now in
+    let config = config_data c.args.config.now in
     let w = waiting_data c.args.waiting.now in
     let old = state_data c.args.state.now in
     let last = state_data c.answer_packet.new.state in
     let answer = answer_data c.args.answer in (
       c.answer_packet.new.sent.items,
       search rules,
-      subst (λ (l : List ℕ). AnswerSteps m role party (taken w.question answer) w c.args.input.now old c.answer_packet.new.input last l c.answer_packet.new.sent.items) c.new-sent.ensures.items
-          (subst (λ (a : AnswerData). AnswerSteps m role party a w c.args.input.now old c.answer_packet.new.input last c.new-sent.result.items c.answer_packet.new.sent.items) (always_decides answer w.question)
+      subst (λ (l : List ℕ). AnswerSteps m role config (taken w.question answer) w c.args.input.now old c.answer_packet.new.input last l c.answer_packet.new.sent.items) c.new-sent.ensures.items
+          (subst (λ (a : AnswerData). AnswerSteps m role config a w c.args.input.now old c.answer_packet.new.input last c.new-sent.result.items c.answer_packet.new.sent.items) (always_decides answer w.question)
           c.in_ok-answer_packet.ensures.steps),
     )

@@ -7,14 +7,14 @@ use Rattle.sshcore.specs.Exchanged.{HasForm}
 use Rattle.sshcore.specs.StateData.{state_data}
 use Rattle.sshcore.specs.WaitingView.{waiting_data}
 use Rattle.sshcore.proofs.AskingLemmas.{answer_steps, answered_turns}
-use Rattle.sshcore.proofs.Below.{Below}
+use Rattle.sshcore.proofs.LawsBelow.{Below}
 use Rattle.sshcore.proofs.HistoryLemmas.{Streams}
 use Rattle.sshcore.proofs.KeepingLemmas.{fits_after, fits_input}
 use Rattle.sshcore.proofs.asking_answer.answer_packet.Goals as goal
 
 pub returns-clause-steps : goal.returns-clause-steps
 returns-clause-steps g c =
-    let below : Below = record { numbers = c.numbers_law.ensures.kind; alike = c.numbers_law.ensures.alike; right = c.markers_law.ensures.right } in
+    let below : Below = record { numbers = c.numbers_law.ensures.message_number; alike = c.numbers_law.ensures.alike; right = c.markers_law.ensures.right } in
     let streams : Streams = record {
       packets = c.parser_by_law.ensures.packets;
       lines = c.parser_by_law.ensures.lines;
@@ -30,12 +30,12 @@ returns-clause-steps g c =
     let m = g.S.Suite.meaning c.args.suite.now in
     let d = g.D.Decisions.policy c.args.decisions.now in
     let role = role_of c.args.config.now in
-    let party = config_data c.args.config.now in
+    let config = config_data c.args.config.now in
     let w = waiting_data c.args.waiting.now in
     let old = state_data c.args.state.now in
     let new = state_data c.receive_prepared.new.self in
-    let brings = subst (λ (l : List ℕ). HasForm m old → Brings (setup_with m d role party) old new w.packet l c.args.sent.now.items c.receive_prepared.new.sent.items) c.deref.ensures.value c.in_ok-receive_prepared.ensures.brings in
-    answer_steps below streams m role party d w old new (state_data c.turn_input.new.state) c.args.sent.now.items c.receive_prepared.new.sent.items c.requires.asked.is_open
+    let brings = subst (λ (l : List ℕ). HasForm m old → Brings (setup_with m d role config) old new w.packet l c.args.sent.now.items c.receive_prepared.new.sent.items) c.deref.ensures.value c.in_ok-receive_prepared.ensures.brings in
+    answer_steps below streams m role config d w old new (state_data c.turn_input.new.state) c.args.sent.now.items c.receive_prepared.new.sent.items c.requires.asked.is_open
     c.args.input.now c.turn_input.new.input c.requires.asked.asks brings c.turn_input.ensures.turned
 
 pub returns-clause-reads : goal.returns-clause-reads
@@ -43,7 +43,7 @@ returns-clause-reads g c = λ ongoing. c.turn_input.ensures.reads (g.S.Suite.mea
 
 pub returns-clause-turns : goal.returns-clause-turns
 returns-clause-turns g c =
-    let below : Below = record { numbers = c.numbers_law.ensures.kind; alike = c.numbers_law.ensures.alike; right = c.markers_law.ensures.right } in
+    let below : Below = record { numbers = c.numbers_law.ensures.message_number; alike = c.numbers_law.ensures.alike; right = c.markers_law.ensures.right } in
     let streams : Streams = record {
       packets = c.parser_by_law.ensures.packets;
       lines = c.parser_by_law.ensures.lines;
@@ -63,14 +63,14 @@ returns-clause-turns g c =
 
 pub returns-clause-keeps : goal.returns-clause-keeps
 returns-clause-keeps g c =
-    let below : Below = record { numbers = c.numbers_law.ensures.kind; alike = c.numbers_law.ensures.alike; right = c.markers_law.ensures.right } in
+    let below : Below = record { numbers = c.numbers_law.ensures.message_number; alike = c.numbers_law.ensures.alike; right = c.markers_law.ensures.right } in
     let m = g.S.Suite.meaning c.args.suite.now in
     let d = g.D.Decisions.policy c.args.decisions.now in
     let role = role_of c.args.config.now in
-    let party = config_data c.args.config.now in
+    let config = config_data c.args.config.now in
     let w = waiting_data c.args.waiting.now in
     let old = state_data c.args.state.now in
     let new = state_data c.receive_prepared.new.self in
-    let brings = subst (λ (l : List ℕ). HasForm m old → Brings (setup_with m d role party) old new w.packet l c.args.sent.now.items c.receive_prepared.new.sent.items) c.deref.ensures.value c.in_ok-receive_prepared.ensures.brings in
-    fits_input m party old new (state_data c.turn_input.new.state) c.args.input.now c.turn_input.new.input c.turn_input.ensures.turned
-    (fits_after below (setup_with m d role party) w.payload old new w.packet c.args.sent.now.items c.receive_prepared.new.sent.items (λ fits. brings fits.form))
+    let brings = subst (λ (l : List ℕ). HasForm m old → Brings (setup_with m d role config) old new w.packet l c.args.sent.now.items c.receive_prepared.new.sent.items) c.deref.ensures.value c.in_ok-receive_prepared.ensures.brings in
+    fits_input m config old new (state_data c.turn_input.new.state) c.args.input.now c.turn_input.new.input c.turn_input.ensures.turned
+    (fits_after below (setup_with m d role config) w.payload old new w.packet c.args.sent.now.items c.receive_prepared.new.sent.items (λ fits. brings fits.form))

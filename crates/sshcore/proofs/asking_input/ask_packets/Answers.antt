@@ -14,7 +14,7 @@ use Rattle.sshcore.specs.Standing.{exchange_received}
 use Rattle.sshcore.specs.StateData.{state_data}
 use Rattle.sshcore.specs.Unread.{ReadsPacket}
 use Rattle.sshcore.proofs.AskingLemmas.{alike_unasked, reads_packet, unit_steps}
-use Rattle.sshcore.proofs.Below.{Below}
+use Rattle.sshcore.proofs.LawsBelow.{Below}
 use Rattle.sshcore.proofs.HistoryLemmas.{Streams}
 use Rattle.sshcore.proofs.KeepingLemmas.{fits_after, fits_turned}
 use Rattle.sshcore.proofs.ReadLemmas.{packets_part, packets_refused, refused_some}
@@ -24,7 +24,7 @@ pub returns-in-Ok-More-clause-steps : goal.returns-in-Ok-More-clause-steps
 returns-in-Ok-More-clause-steps g c = λ d.
     let m = g.S.Suite.meaning c.args.suite.now in
     let r = c.args.reader.now in
-    let below : Below = record { numbers = c.numbers_law.ensures.kind; alike = c.numbers_law.ensures.alike; right = c.markers_law.ensures.right } in
+    let below : Below = record { numbers = c.numbers_law.ensures.message_number; alike = c.numbers_law.ensures.alike; right = c.markers_law.ensures.right } in
     let streams : Streams = record {
       packets = c.parser_by_law.ensures.packets;
       lines = c.parser_by_law.ensures.lines;
@@ -73,7 +73,7 @@ pub returns-in_ok-receive_prepared-in-None-clause-steps : goal.returns-in_ok-rec
 returns-in_ok-receive_prepared-in-None-clause-steps g c = λ d.
     let m = g.S.Suite.meaning c.args.suite.now in
     let r = c.args.reader.now in
-    let below : Below = record { numbers = c.numbers_law.ensures.kind; alike = c.numbers_law.ensures.alike; right = c.markers_law.ensures.right } in
+    let below : Below = record { numbers = c.numbers_law.ensures.message_number; alike = c.numbers_law.ensures.alike; right = c.markers_law.ensures.right } in
     let streams : Streams = record {
       packets = c.parser_by_law.ensures.packets;
       lines = c.parser_by_law.ensures.lines;
@@ -91,17 +91,17 @@ returns-in_ok-receive_prepared-in-None-clause-steps g c = λ d.
     let answer = subst (λ x. ParseAnswer m (packet_reader_data r) c.args.piece.now (Ok x)) c.in-Ok-Payload.field-0-is (c.in-Ok-Payload.ensures.answers c.requires.reads) in
     let leaves = subst (λ x. ReaderLeaves m (packet_reader_data r) c.args.piece.now x p) came (c.next.follows.holds-at-none.0 c.requires.reads) in
     let role = role_of c.args.config.now in
-    let party = config_data c.args.config.now in
+    let config = config_data c.args.config.now in
     let old = state_data c.args.state.now in
-    unit_steps below streams m role party (always (Decided false)) old (state_data c.receive_prepared.new.self) (state_data c.turn.new.state) c.args.sent.now.items c.receive_prepared.new.sent.items c.requires.open
+    unit_steps below streams m role config (always (Decided false)) old (state_data c.receive_prepared.new.self) (state_data c.turn.new.state) c.args.sent.now.items c.receive_prepared.new.sent.items c.requires.open
     r p c.turn.new.reader c.args.piece.now c.in-Ok-Payload.payload.now c.in-Ok-Payload.used c.in-Ok-Payload.seq answer.0 answer.1 answer.2 leaves.0 c.in_ok-receive_prepared-in-None.ensures.brings c.turn.ensures.turns d
-    (alike_unasked d (question_at m role party old c.in-Ok-Payload.payload.now) (sym c.in_ok-asked-in-Ok-Payload.ensures ∙ ap (λ x. option_map asked_data x) c.in-None.is))
+    (alike_unasked d (question_at m role config old c.in-Ok-Payload.payload.now) (sym c.in_ok-asked-in-Ok-Payload.ensures ∙ ap (λ x. option_map asked_data x) c.in-None.is))
 
 pub returns-in_ok-fail_packet-in-Err-clause-steps : goal.returns-in_ok-fail_packet-in-Err-clause-steps
 returns-in_ok-fail_packet-in-Err-clause-steps g c = λ d.
     let m = g.S.Suite.meaning c.args.suite.now in
     let r = c.args.reader.now in
-    let below : Below = record { numbers = c.numbers_law.ensures.kind; alike = c.numbers_law.ensures.alike; right = c.markers_law.ensures.right } in
+    let below : Below = record { numbers = c.numbers_law.ensures.message_number; alike = c.numbers_law.ensures.alike; right = c.markers_law.ensures.right } in
     let streams : Streams = record {
       packets = c.parser_by_law.ensures.packets;
       lines = c.parser_by_law.ensures.lines;
@@ -142,10 +142,10 @@ returns-in_ok-fail_packet-in-Err-clause-used g c =
 pub returns-in_ok-receive_prepared-in-None-clause-keeps : goal.returns-in_ok-receive_prepared-in-None-clause-keeps
 returns-in_ok-receive_prepared-in-None-clause-keeps g c =
     let m = g.S.Suite.meaning c.args.suite.now in
-    let below : Below = record { numbers = c.numbers_law.ensures.kind; alike = c.numbers_law.ensures.alike; right = c.markers_law.ensures.right } in
-    let party = config_data c.args.config.now in
+    let below : Below = record { numbers = c.numbers_law.ensures.message_number; alike = c.numbers_law.ensures.alike; right = c.markers_law.ensures.right } in
+    let config = config_data c.args.config.now in
     let old = state_data c.args.state.now in
     let new = state_data c.receive_prepared.new.self in
-    fits_turned m party old new (state_data c.turn.new.state) c.next.follows.lender-at-none c.turn.new.reader c.turn.ensures.turns
-    (fits_after below (setup_with m (always (Decided false)) (role_of c.args.config.now) party) c.in-Ok-Payload.payload.now old new c.in-Ok-Payload.seq c.args.sent.now.items c.receive_prepared.new.sent.items
+    fits_turned m config old new (state_data c.turn.new.state) c.next.follows.lender-at-none c.turn.new.reader c.turn.ensures.turns
+    (fits_after below (setup_with m (always (Decided false)) (role_of c.args.config.now) config) c.in-Ok-Payload.payload.now old new c.in-Ok-Payload.seq c.args.sent.now.items c.receive_prepared.new.sent.items
     (λ fits. c.in_ok-receive_prepared-in-None.ensures.brings fits.form))

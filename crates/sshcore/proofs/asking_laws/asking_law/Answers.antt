@@ -98,4 +98,4 @@ returns-clause-later g c = λ same d h more s t.
       more = c.stream_law.ensures.read_more;
       sent = c.stream_law.ensures.sent_append;
     } in
-    later_of g.S.Suite.meaning d streams c.args.one.now c.args.other.now same c.numbers_law.ensures.kind c.question.ensures.packet c.question-2.ensures.packet h more s t
+    later_of g.S.Suite.meaning d streams c.args.one.now c.args.other.now same c.numbers_law.ensures.message_number c.question.ensures.packet c.question-2.ensures.packet h more s t

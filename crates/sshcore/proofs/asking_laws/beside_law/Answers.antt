@@ -38,4 +38,4 @@ returns-clause-answered g c = λ beside none p q answers h other_h s t x y dialo
       sent = c.stream_law.ensures.sent_append;
     } in
     joined_beside g.S.Suite.meaning g.D.Decisions.policy c.history_law.ensures.joined c.args.asking.now c.args.endpoint.now beside none p q h other_h s t x y
-    (stands_by g.S.Suite.meaning streams c.numbers_law.ensures.kind c.args.asking.now answers h s dialogue (g.D.Decisions.policy c.args.endpoint.now.decisions) gives)
+    (stands_by g.S.Suite.meaning streams c.numbers_law.ensures.message_number c.args.asking.now answers h s dialogue (g.D.Decisions.policy c.args.endpoint.now.decisions) gives)

@@ -16,7 +16,7 @@ returns-clause-once g c =
       more = c.stream_law.ensures.read_more;
       sent = c.stream_law.ensures.sent_append;
     } in
-    answered_once g.S.Suite.meaning streams c.numbers_law.ensures.kind c.args.endpoint.now
+    answered_once g.S.Suite.meaning streams c.numbers_law.ensures.message_number c.args.endpoint.now
 
 pub returns-clause-some : goal.returns-clause-some
 returns-clause-some g c =
@@ -32,7 +32,7 @@ returns-clause-some g c =
       more = c.stream_law.ensures.read_more;
       sent = c.stream_law.ensures.sent_append;
     } in
-    decisions_of g.S.Suite.meaning streams c.numbers_law.ensures.kind c.args.endpoint.now
+    decisions_of g.S.Suite.meaning streams c.numbers_law.ensures.message_number c.args.endpoint.now
 
 pub returns-clause-all : goal.returns-clause-all
 returns-clause-all g c =
@@ -48,4 +48,4 @@ returns-clause-all g c =
       more = c.stream_law.ensures.read_more;
       sent = c.stream_law.ensures.sent_append;
     } in
-    stands_by g.S.Suite.meaning streams c.numbers_law.ensures.kind c.args.endpoint.now
+    stands_by g.S.Suite.meaning streams c.numbers_law.ensures.message_number c.args.endpoint.now

@@ -4,7 +4,7 @@ use Rattle.sshcore.proofs.asking_laws.questions_law.Goals as goal
 
 pub returns : goal.returns
 returns c = record {
-  once = λ setup version before. asked.once c.numbers_law.ensures.kind setup version before;
+  once = λ setup version before. asked.once c.numbers_law.ensures.message_number setup version before;
   answers = some_decisions;
   same = asked.same;
   nothing = asked.nothing;

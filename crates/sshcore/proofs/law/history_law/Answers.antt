@@ -1,5 +1,5 @@
 use Rattle.sshcore.specs.Directions.{parsers}
-use Rattle.sshcore.proofs.Below.{Below}
+use Rattle.sshcore.proofs.LawsBelow.{Below}
 use Rattle.sshcore.proofs.HistoryLemmas as history
 use Rattle.sshcore.proofs.HistoryLemmas.{Streams}
 use Rattle.sshcore.proofs.JoinedHistory.{joined}
@@ -8,7 +8,7 @@ use Rattle.sshcore.proofs.law.history_law.Goals as goal
 
 pub returns : goal.returns
 returns c =
-    let below : Below = record { numbers = c.numbers_law.ensures.kind; alike = c.numbers_law.ensures.alike; right = c.markers_law.ensures.right } in
+    let below : Below = record { numbers = c.numbers_law.ensures.message_number; alike = c.numbers_law.ensures.alike; right = c.markers_law.ensures.right } in
     let streams : Streams = record {
       packets = c.parser_by_law.ensures.packets;
       lines = c.parser_by_law.ensures.lines;

@@ -11,7 +11,7 @@ returns-clause-replies c = standing.replies
 
 pub returns-clause-offers : goal.returns-clause-offers
 returns-clause-offers c = λ setup version before payload.
-    standing.offers setup version before payload (record { numbers = c.numbers_law.ensures.kind; alike = c.numbers_law.ensures.alike; right = c.markers_law.ensures.right })
+    standing.offers setup version before payload (record { numbers = c.numbers_law.ensures.message_number; alike = c.numbers_law.ensures.alike; right = c.markers_law.ensures.right })
 
 pub returns-clause-drops : goal.returns-clause-drops
 returns-clause-drops c = standing.drops
@@ -42,4 +42,4 @@ returns-clause-counts_on c = standing.counts_on
 
 pub returns-clause-formless : goal.returns-clause-formless
 returns-clause-formless c =
-    formless (record { numbers = c.numbers_law.ensures.kind; alike = c.numbers_law.ensures.alike; right = c.markers_law.ensures.right })
+    formless (record { numbers = c.numbers_law.ensures.message_number; alike = c.numbers_law.ensures.alike; right = c.markers_law.ensures.right })

@@ -38,23 +38,23 @@ pub returns-then-not-has_form-clause-made : goal.returns-then-not-has_form-claus
 returns-then-not-has_form-clause-made g c = λ p r.
     let m = g.S.Suite.meaning in
     let role = role_of c.args.config in
-    let party = config_data c.args.config in
+    let config = config_data c.args.config in
     let told = some_is (record_data c.in-Some.parts) (record_of p) (c.in-Some.ensures (record_of p) r.is_record.written r.is_record.bytes_are) in
-    let so = c.in_ok-state.ensures.made (subst FitsState (sym told) (fits_state m role party c.args.suite.now c.args.text.now p r)) in
-    let form = made.has_form m role party c.args.suite.now c.args.text.now p r c.in-Some.parts c.in_ok-state.state told so in
+    let so = c.in_ok-state.ensures.made (subst FitsState (sym told) (fits_state m role config c.args.suite.now c.args.text.now p r)) in
+    let form = made.has_form m role config c.args.suite.now c.args.text.now p r c.in-Some.parts c.in_ok-state.state told so in
     absurd (search (form, c.has_form.ensures, c.if-not-has_form.true, c.if-not-has_form.ensures, rules))
 
 pub returns-in_err-input-clause-made : goal.returns-in_err-input-clause-made
 returns-in_err-input-clause-made g c = λ p r.
     let m = g.S.Suite.meaning in
     let role = role_of c.args.config in
-    let party = config_data c.args.config in
+    let config = config_data c.args.config in
     let suite = c.args.suite.now in
     let text = c.args.text.now in
     let parts = c.in-Some.parts in
     let told = some_is (record_data parts) (record_of p) (c.in-Some.ensures (record_of p) r.is_record.written r.is_record.bytes_are) in
-    let lines = made.reader_so m role party suite text p r parts told in
-    let missing = made.missing_so m role party suite text p r parts told in
+    let lines = made.reader_so m role config suite text p r parts told in
+    let missing = made.missing_so m role config suite text p r parts told in
     let so = c.in_err-input.ensures.made lines.0 lines.1 missing in
     search (so, c.from_residual-in_err-input.ensures, rules)
 
@@ -62,18 +62,18 @@ pub returns-in_err-waiting-clause-made : goal.returns-in_err-waiting-clause-made
 returns-in_err-waiting-clause-made g c = λ p r.
     let m = g.S.Suite.meaning in
     let role = role_of c.args.config in
-    let party = config_data c.args.config in
+    let config = config_data c.args.config in
     let suite = c.args.suite.now in
     let text = c.args.text.now in
     let parts = c.in-Some.parts in
     let told = some_is (record_data parts) (record_of p) (c.in-Some.ensures (record_of p) r.is_record.written r.is_record.bytes_are) in
-    let so = c.in_ok-state.ensures.made (subst FitsState (sym told) (fits_state m role party suite text p r)) in
-    let kept = made.kept_so m role party suite text p r parts c.in_ok-state.state c.with_left-state.result told so (map attempt_data c.plan.result.now) (map attempt_data c.last_of.result.now)
+    let so = c.in_ok-state.ensures.made (subst FitsState (sym told) (fits_state m role config suite text p r)) in
+    let kept = made.kept_so m role config suite text p r parts c.in_ok-state.state c.with_left-state.result told so (map attempt_data c.plan.result.now) (map attempt_data c.last_of.result.now)
     c.plan.ensures.plan c.last_of.ensures.last c.with_left-state.ensures.same in
-    let lines = made.reader_so m role party suite text p r parts told in
-    let missing = made.missing_so m role party suite text p r parts told in
-    let input = made.input_so m role party suite text p r parts c.line_form.result c.in_ok-input.input told (c.in_ok-input.ensures.made lines.0 lines.1 missing) in
-    let asked = made.asked_so m role party suite text p r (state_data c.with_left-state.result) c.line_form.result c.in_ok-input.input kept input in
+    let lines = made.reader_so m role config suite text p r parts told in
+    let missing = made.missing_so m role config suite text p r parts told in
+    let input = made.input_so m role config suite text p r parts c.line_form.result c.in_ok-input.input told (c.in_ok-input.ensures.made lines.0 lines.1 missing) in
+    let asked = made.asked_so m role config suite text p r (state_data c.with_left-state.result) c.line_form.result c.in_ok-input.input kept input in
     let waits = c.in_err-waiting.ensures.made p.waiting asked (sym (ap (λ (x : RecordData). x.waiting) told)) in
     search (waits, c.from_residual-in_err-waiting.ensures, rules)
 
@@ -81,22 +81,22 @@ pub returns-clause-made : goal.returns-clause-made
 returns-clause-made g c = λ p r.
     let m = g.S.Suite.meaning in
     let role = role_of c.args.config in
-    let party = config_data c.args.config in
+    let config = config_data c.args.config in
     let suite = c.args.suite.now in
     let text = c.args.text.now in
     let parts = c.in-Some.parts in
     let told = some_is (record_data parts) (record_of p) (c.in-Some.ensures (record_of p) r.is_record.written r.is_record.bytes_are) in
-    let so = c.in_ok-state.ensures.made (subst FitsState (sym told) (fits_state m role party suite text p r)) in
-    let kept = made.kept_so m role party suite text p r parts c.in_ok-state.state c.with_left-state.result told so (map attempt_data c.plan.result.now) (map attempt_data c.last_of.result.now)
+    let so = c.in_ok-state.ensures.made (subst FitsState (sym told) (fits_state m role config suite text p r)) in
+    let kept = made.kept_so m role config suite text p r parts c.in_ok-state.state c.with_left-state.result told so (map attempt_data c.plan.result.now) (map attempt_data c.last_of.result.now)
     c.plan.ensures.plan c.last_of.ensures.last c.with_left-state.ensures.same in
-    let lines = made.reader_so m role party suite text p r parts told in
-    let missing = made.missing_so m role party suite text p r parts told in
-    let input = made.input_so m role party suite text p r parts c.line_form.result c.in_ok-input.input told (c.in_ok-input.ensures.made lines.0 lines.1 missing) in
-    let asked = made.asked_so m role party suite text p r (state_data c.with_left-state.result) c.line_form.result c.in_ok-input.input kept input in
+    let lines = made.reader_so m role config suite text p r parts told in
+    let missing = made.missing_so m role config suite text p r parts told in
+    let input = made.input_so m role config suite text p r parts c.line_form.result c.in_ok-input.input told (c.in_ok-input.ensures.made lines.0 lines.1 missing) in
+    let asked = made.asked_so m role config suite text p r (state_data c.with_left-state.result) c.line_form.result c.in_ok-input.input kept input in
     let waits = c.in_ok-waiting.ensures.made p.waiting asked (sym (ap (λ (x : RecordData). x.waiting) told)) in
     record {
-      kept = c.with.ensures.kept ∙ made.kept_last m role party suite text p r parts c.with_left-state.result told c.with_left-state.ensures.confirmed kept;
-      input = subst (λ (i : Input). IsSameInput (form_of party.reading role) p.input i) (sym c.with.ensures.same.0)
+      kept = c.with.ensures.kept ∙ made.kept_last m role config suite text p r parts c.with_left-state.result told c.with_left-state.ensures.confirmed kept;
+      input = subst (λ (i : Input). IsSameInput (form_of config.reading role) p.input i) (sym c.with.ensures.same.0)
           (subst (λ (f : LineForm). IsSameInput f p.input c.in_ok-input.input) c.line_form.ensures (made.same_input (m suite) c.line_form.result p.input c.in_ok-input.input (r.fits.fits.reads (inl r.is_record.is_open)) r.reading input));
       waiting = subst (λ (v : Option WaitingData). IsSameWaiting p.waiting v) (sym c.with.ensures.same.1) waits;
     }

@@ -11,10 +11,10 @@ returns-clause-after g c = λ setup h s same after.
     asking_as setup (kept_by setup.config one) (kept_by setup.config other) one.input other.input one.waiting other.waiting h s same.kept same.input same.waiting after
 
 pub returns-clause-end : goal.returns-clause-end
-returns-clause-end g c = λ role party same. ap (λ (k : StateData). k.end) same.kept
+returns-clause-end g c = λ role config same. ap (λ (k : StateData). k.end) same.kept
 
 pub returns-clause-asks : goal.returns-clause-asks
-returns-clause-asks g c = λ role party same. asked_as _ _ c.args.one.now.waiting c.args.other.now.waiting (ap (λ (k : StateData). k.end) same.kept) same.waiting
+returns-clause-asks g c = λ role config same. asked_as _ _ c.args.one.now.waiting c.args.other.now.waiting (ap (λ (k : StateData). k.end) same.kept) same.waiting
 
 pub returns-clause-reading : goal.returns-clause-reading
 returns-clause-reading g c = λ setup h s after is. reading_of setup (kept_by setup.config c.args.one.now) c.args.one.now.input c.args.one.now.waiting h s is after

@@ -4,7 +4,7 @@ use Rattle.sshcore.specs.ConfigParts.{ClientData, ServerData}
 use Rattle.sshcore.specs.ConfigRules.{IsClient}
 use Rattle.sshcore.specs.ConfigView.{client_data, server_data}
 use Rattle.sshlab.specs.ScenarioFaults.{IsClientRefusal, IsServerRefusal}
-use Rattle.sshlab.proofs.OwnedLemmas.{there, told}
+use Rattle.sshwire.proofs.OwnedLemmas.{there, told}
 use Rattle.sshlab.proofs.scenario.configs_of.Goals as goal
 
 pub returns-in_err-server-clause-refused : goal.returns-in_err-server-clause-refused

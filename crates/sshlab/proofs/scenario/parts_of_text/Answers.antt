@@ -5,7 +5,7 @@ use Rattle.sshlab.specs.ScenarioFaults.{IsLineCause}
 use Rattle.sshlab.specs.ScenarioParts.{some_or}
 use Rattle.sshlab.specs.ScenarioText.{statements_in}
 use Rattle.sshlab.specs.TextLines.{lines}
-use Rattle.sshlab.proofs.OwnedLemmas.{done_ok, told}
+use Rattle.sshwire.proofs.OwnedLemmas.{done_ok, told}
 use Rattle.sshlab.proofs.ScenarioPartLemmas.{client_drafted, rules_drafted, server_drafted, steps_drafted}
 use Rattle.sshlab.proofs.scenario.parts_of_text.Goals as goal
 

@@ -1,7 +1,7 @@
 use Rattle.std.proofs.Common.{◌+◌, sym, subst}
 use Rattle.std.specs.Result.{OnOk}
 use Rattle.sshworld.specs.Offered.{most_requests}
-use Rattle.sshworld.specs.WorldCourse.{AreUnderstoodIn}
+use Rattle.sshworld.specs.WorldCourse.{AreCompatibleIn}
 use Rattle.sshworld.specs.Worlds.{Complete, HadMemory}
 use Rattle.sshlab.specs.declared.scenario_line.Step.{Step}
 use Rattle.sshlab.specs.Steps.{SettlesFor}
@@ -15,6 +15,6 @@ returns-in_ok-deliver-in-Deliver-clause-done g c =
 
 pub returns-in-Settle-clause-settled : goal.returns-in-Settle-clause-settled
 returns-in-Settle-clause-settled g c = subst
-    (λ (s : Step). OnOk c.settle.result (AreUnderstoodIn g.S.Suite.meaning g.D.Decisions.policy c.args.world.now → HadMemory c.args.world.now
+    (λ (s : Step). OnOk c.settle.result (AreCompatibleIn g.S.Suite.meaning g.D.Decisions.policy c.args.world.now → HadMemory c.args.world.now
     → SettlesFor (most_requests c.args.world.now.client_config.plan + 4) s → Complete c.settle.new.self))
     (sym c.in-Settle.is) c.settle.ensures.bound

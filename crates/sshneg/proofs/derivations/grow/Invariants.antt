@@ -1,5 +1,5 @@
 use Rattle.sshneg.specs.ExchangeView.{key_material_data}
-use Rattle.sshneg.specs.Growing.{Grows}
+use Rattle.sshneg.specs.GrowingKeys.{Grows}
 use Rattle.sshneg.proofs.derivations.grow.Given as goal
 
 abbrev pub invariant-loop : goal.invariant-loop

@@ -5,7 +5,7 @@ use Rattle.sshworld.specs.Headline.{Headline}
 use Rattle.sshworld.specs.Outcome.{outcome}
 use Rattle.sshpromises.specs.Claims.{CarriesOn}
 use Rattle.sshpromises.proofs.ByHandLemmas.{headline_by_hand}
-use Rattle.sshpromises.proofs.OwnedLemmas.{beside_ok}
+use Rattle.sshwire.proofs.OwnedLemmas.{beside_ok}
 use Rattle.sshpromises.proofs.by_hand.run_by_hand.Goals as goal
 
 pub returns : goal.returns
@@ -27,7 +27,7 @@ returns g c =
           (λ all carries. headline_by_hand m d client server suite decisions c.in_ok-of_client.of_client two.of_client done.new.client two.of_server done.new.server
           c.server-of_server.result _ _ c.client.new.out c.server-of_server.new.out c.new-to_server.ensures.items c.new-to_client.ensures.items
           two.ensures.first two.ensures.other c.in_ok-of_client.ensures.made c.server-of_server.ensures.made c.parts.ensures.accepted c.parts-2.ensures.accepted
-          (c.follows_law.ensures.understood (m suite) (d decisions) client server (g.met.S.AgreeingSuite.agrees suite) c.parts.ensures.accepted c.parts-2.ensures.accepted)
+          (c.follows_law.ensures.compatible (m suite) (d decisions) client server (g.met.S.AgreeingSuite.agrees suite) c.parts.ensures.accepted c.parts-2.ensures.accepted)
           (c.wire_law.ensures.begins client server suite decisions two.of_client two.of_server c.client.new.out c.server-of_server.new.out)
           (c.wire_law.ensures.ends client server suite decisions) (IsTrue all) carries)
           done.ensures.carries);

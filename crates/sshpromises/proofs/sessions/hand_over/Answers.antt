@@ -8,5 +8,5 @@ returns g c = λ are.
       (of_client.0, of_server.0),
       c.both.ensures.there of_client.0 of_server.0 of_client.1 of_server.1,
       c.session_law.ensures.crosswise are.client_config are.server_config c.args.client c.args.server are.client_received are.client_sent are.server_received are.server_sent
-          are.is_client are.is_server are.understood j are.of_client are.of_server are.client_ended are.server_ended of_client.0 of_server.0 of_client.2 of_server.2,
+          are.is_client are.is_server are.compatible j are.of_client are.of_server are.client_ended are.server_ended of_client.0 of_server.0 of_client.2 of_server.2,
     )

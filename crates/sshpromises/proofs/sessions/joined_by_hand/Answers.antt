@@ -1,5 +1,5 @@
 use Rattle.sshpromises.specs.Claims.{AreJoinedSomehow}
-use Rattle.sshpromises.proofs.OwnedLemmas.{once_ok, where_ok}
+use Rattle.sshwire.proofs.OwnedLemmas.{once_ok, where_ok}
 use Rattle.sshpromises.proofs.SessionLemmas.{hand_joined}
 use Rattle.sshpromises.proofs.sessions.joined_by_hand.Goals as goal
 

@@ -1,6 +1,6 @@
 use Rattle.sshworld.specs.Outcome.{outcome}
 use Rattle.sshpromises.specs.Claims.{HasRun, PairIs}
-use Rattle.sshpromises.proofs.OwnedLemmas.{beside_ok, with_first}
+use Rattle.sshwire.proofs.OwnedLemmas.{beside_ok, with_first}
 use Rattle.sshpromises.proofs.WorldLemmas.{pair_with}
 use Rattle.sshpromises.proofs.worlds.any_two.Goals as goal
 

@@ -3,7 +3,7 @@ use Rattle.sshcore.specs.EndData.{end_data}
 use Rattle.sshworld.specs.Outcome.{outcome}
 use Rattle.sshworld.specs.Worlds.{Complete}
 use Rattle.sshpromises.specs.Claims.{HasRun}
-use Rattle.sshpromises.proofs.OwnedLemmas.{beside_ok}
+use Rattle.sshwire.proofs.OwnedLemmas.{beside_ok}
 use Rattle.sshpromises.proofs.WorldLemmas.{told_client, told_server}
 use Rattle.sshpromises.proofs.worlds.foretold.Goals as goal
 

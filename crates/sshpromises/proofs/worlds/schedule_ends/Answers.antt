@@ -1,10 +1,10 @@
 use Rattle.std.proofs.Common.{◌≡◌, ◌∙◌}
 use Rattle.sshworld.specs.Worlds.{HadMemory}
-use Rattle.sshworld.specs.WorldCourse.{AreUnderstoodIn}
+use Rattle.sshworld.specs.WorldCourse.{AreCompatibleIn}
 use Rattle.sshworld.specs.Outcome.{outcome}
 use Rattle.sshpromises.specs.Claims.{EndsWell, HasRun}
-use Rattle.sshpromises.proofs.OwnedLemmas.{once_always, once_ok, where_ok}
-use Rattle.sshpromises.proofs.WorldLemmas.{ends_well, new_had, understood_in}
+use Rattle.sshwire.proofs.OwnedLemmas.{once_always, once_ok, where_ok}
+use Rattle.sshpromises.proofs.WorldLemmas.{compatible_in, ends_well, new_had}
 use Rattle.sshpromises.proofs.worlds.schedule_ends.Goals as goal
 
 pub returns-clause-client_config : goal.returns-clause-client_config
@@ -28,14 +28,14 @@ returns-clause-memory g c =
     once_ok c.once.result (λ w. HadMemory w) tt c.run-ran.result c.run-ran.new.self c.once.ensures.value c.once.ensures.done
     (where_ok c.run-ran.result c.run-ran.ensures.still (λ still. still (new_had g.S.Suite.meaning g.D.Decisions.policy c.in_ok-world.world c.in_ok-world.ensures.start)))
 
-pub returns-clause-understood : goal.returns-clause-understood
-returns-clause-understood g c =
+pub returns-clause-compatible : goal.returns-clause-compatible
+returns-clause-compatible g c =
     let e = c.in_ok-world.ensures in
     let s = c.run-ran.ensures.setup in
-    once_always c.once.result (λ w. AreUnderstoodIn g.S.Suite.meaning g.D.Decisions.policy w) c.run-ran.new.self c.once.ensures.value
-    (understood_in g.S.Suite.meaning g.D.Decisions.policy c.args.client.now c.args.server.now c.args.suite.now c.args.decisions.now c.run-ran.new.self
+    once_always c.once.result (λ w. AreCompatibleIn g.S.Suite.meaning g.D.Decisions.policy w) c.run-ran.new.self c.once.ensures.value
+    (compatible_in g.S.Suite.meaning g.D.Decisions.policy c.args.client.now c.args.server.now c.args.suite.now c.args.decisions.now c.run-ran.new.self
     (s.same_client_config ∙ e.client_config) (s.same_server_config ∙ e.server_config) (s.same_suite ∙ e.suite) (s.same_decisions ∙ e.decisions)
-    (c.follows_law.ensures.understood (g.S.Suite.meaning c.args.suite.now) (g.D.Decisions.policy c.args.decisions.now) c.args.client.now c.args.server.now
+    (c.follows_law.ensures.compatible (g.S.Suite.meaning c.args.suite.now) (g.D.Decisions.policy c.args.decisions.now) c.args.client.now c.args.server.now
     (g.met.S.AgreeingSuite.agrees c.args.suite.now) c.parts.ensures.accepted c.parts-2.ensures.accepted))
 
 pub returns-clause-ends : goal.returns-clause-ends
@@ -46,7 +46,7 @@ returns-clause-ends g c =
     tt c.run-ran.result c.run-ran.new.self c.once.ensures.value c.once.ensures.done
     (where_ok c.run-ran.result c.run-ran.ensures.still (λ still. ends_well g.S.Suite.meaning g.D.Decisions.policy c.args.client.now c.args.server.now c.args.suite.now c.args.decisions.now c.run-ran.new.self
     (s.same_client_config ∙ e.client_config) (s.same_server_config ∙ e.server_config) (s.same_suite ∙ e.suite) (s.same_decisions ∙ e.decisions)
-    (c.follows_law.ensures.understood (g.S.Suite.meaning c.args.suite.now) (g.D.Decisions.policy c.args.decisions.now) c.args.client.now c.args.server.now
+    (c.follows_law.ensures.compatible (g.S.Suite.meaning c.args.suite.now) (g.D.Decisions.policy c.args.decisions.now) c.args.client.now c.args.server.now
     (g.met.S.AgreeingSuite.agrees c.args.suite.now) c.parts.ensures.accepted c.parts-2.ensures.accepted)
     (still (new_had g.S.Suite.meaning g.D.Decisions.policy c.in_ok-world.world e.start)) c.run-ran.ensures.holds.headline))
 

@@ -5,7 +5,7 @@ use Rattle.sshworld.specs.Deliveries.{Rounds}
 use Rattle.sshworld.specs.Outcome.{outcome}
 use Rattle.sshworld.specs.Worlds.{Complete}
 use Rattle.sshpromises.specs.Claims.{EndsWellOnce, HasSettled}
-use Rattle.sshpromises.proofs.OwnedLemmas.{once_ok, where_both, where_ok}
+use Rattle.sshwire.proofs.OwnedLemmas.{once_ok, where_both, where_ok}
 use Rattle.sshpromises.proofs.RequestLemmas.{few_requests}
 use Rattle.sshpromises.proofs.WorldLemmas.{settled_well}
 use Rattle.sshpromises.proofs.worlds.settled.Goals as goal
@@ -24,7 +24,7 @@ returns-clause-complete g c =
     let e = c.in_ok-world.ensures in
     let s = c.settle-done in
     once_ok c.once.result (λ w. Complete w) tt s.result s.new.self c.once.ensures.value c.once.ensures.done
-    (where_ok s.result s.ensures.bound (λ bound. bound e.understood e.memory
+    (where_ok s.result s.ensures.bound (λ bound. bound e.compatible e.memory
     (omega (arith, c.attempts.ensures.count, few_requests c.in_ok-world.world.client_config.plan, ap (λ (x : ClientData). length x.plan) e.client_config))))
 
 pub returns-clause-ends : goal.returns-clause-ends
@@ -35,8 +35,8 @@ returns-clause-ends g c =
     tt s.result s.new.self c.once.ensures.value c.once.ensures.done
     (where_both s.result s.ensures.still s.ensures.bound (λ still bound.
     settled_well g.S.Suite.meaning g.D.Decisions.policy c.args.client.now c.args.server.now c.args.suite.now c.args.decisions.now c.in_ok-world.world s.new.self
-    e.client_config e.server_config e.suite e.decisions s.ensures.setup e.understood (still e.memory) s.ensures.holds.headline
-    (bound e.understood e.memory
+    e.client_config e.server_config e.suite e.decisions s.ensures.setup e.compatible (still e.memory) s.ensures.holds.headline
+    (bound e.compatible e.memory
     (omega (arith, c.attempts.ensures.count, few_requests c.in_ok-world.world.client_config.plan, ap (λ (x : ClientData). length x.plan) e.client_config)))))
 
 pub returns-clause-ran : goal.returns-clause-ran

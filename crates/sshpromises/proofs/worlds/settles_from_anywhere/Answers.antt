@@ -11,5 +11,5 @@ where_done (Err e) f p = tt
 pub returns : goal.returns
 returns g c =
     let w = c.args.world.now in
-    where_done c.settle.result (λ bound. bound (c.follows_law.ensures.understood (g.S.Suite.meaning w.suite) (g.D.Decisions.policy w.decisions) w.client_config w.server_config
+    where_done c.settle.result (λ bound. bound (c.follows_law.ensures.compatible (g.S.Suite.meaning w.suite) (g.D.Decisions.policy w.decisions) w.client_config w.server_config
     (g.met.S.AgreeingSuite.agrees w.suite) c.complete.ensures.holds.client_accepted c.complete.ensures.holds.server_accepted) c.requires.memory (omega (arith, few_requests w.client_config.plan, c.complete.ensures.holds.client_accepted.keeps fault.Plan))) c.settle.ensures.bound

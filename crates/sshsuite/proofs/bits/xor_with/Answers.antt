@@ -1,5 +1,5 @@
 use Rattle.std.proofs.Common.{arith}
-use Rattle.sshsuite.specs.Masks.{xored_from}
+use Rattle.sshwire.specs.Masks.{xored_from}
 use Rattle.sshsuite.proofs.bits.xor_with.Goals as goal
 
 pub returns : goal.returns

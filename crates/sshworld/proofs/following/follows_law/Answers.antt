@@ -1,5 +1,5 @@
 use Rattle.sshpacket.specs.Suite.{IsLawful, SuiteData}
-use Rattle.sshworld.proofs.AcceptedLemmas.{Below, accepted_follow, accepted_placed, accepted_same_keys, understood_by}
+use Rattle.sshworld.proofs.AcceptedLemmas.{Below, accepted_follow, accepted_placed, accepted_same_keys, compatible_by}
 use Rattle.sshworld.proofs.following.follows_law.Goals as goal
 use Rattle.sshworld.proofs.following.follows_law.Goals.{After-config_law}
 
@@ -23,5 +23,5 @@ returns-clause-places c = λ m d client server law. accepted_placed m law (below
 pub returns-clause-keys : goal.returns-clause-keys
 returns-clause-keys c = λ m d client server law. accepted_same_keys m law (below_by c m law) d client server
 
-pub returns-clause-understood : goal.returns-clause-understood
-returns-clause-understood c = understood_by
+pub returns-clause-compatible : goal.returns-clause-compatible
+returns-clause-compatible c = compatible_by

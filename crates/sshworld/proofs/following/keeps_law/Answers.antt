@@ -3,6 +3,6 @@ use Rattle.sshworld.proofs.following.keeps_law.Goals as goal
 
 pub returns : goal.returns
 returns c = record {
-  keeps = λ m d client server law understood accepted_client accepted_server.
-      c.course_law.ensures.keeps m d client server (wording_of m d client server) (c.follows_law.ensures.follows m d client server law understood accepted_client accepted_server);
+  keeps = λ m d client server law compatible accepted_client accepted_server.
+      c.course_law.ensures.keeps m d client server (wording_of m d client server) (c.follows_law.ensures.follows m d client server law compatible accepted_client accepted_server);
 }

@@ -5,13 +5,13 @@ use Rattle.sshcore.specs.EndData.{agreed_data, end_data}
 use Rattle.sshcore.specs.StateData.{state_data}
 use Rattle.sshcore.specs.WaitingView.{waiting_of}
 use Rattle.sshcore.proofs.AskingLemmas.{asks_nothing, unread_none}
-use Rattle.sshcore.proofs.Below.{Below}
+use Rattle.sshcore.proofs.LawsBelow.{Below}
 use Rattle.sshcore.proofs.SessionLemmas.{authenticated_at, hands_on, hands_over, none_left, packets_at, session_is}
 use Rattle.sshcore.proofs.asking_endpoint.AskingEndpoint.into_session.Goals as goal
 
 pub returns-clause-session : goal.returns-clause-session
 returns-clause-session g c =
-    let below : Below = record { numbers = c.numbers_law.ensures.kind; alike = c.numbers_law.ensures.alike; right = c.markers_law.ensures.right } in
+    let below : Below = record { numbers = c.numbers_law.ensures.message_number; alike = c.numbers_law.ensures.alike; right = c.markers_law.ensures.right } in
     let m = g.S.Suite.meaning c.self.inside.suite.now in
     let kept = state_data c.self.inside.state in
     let i = c.self.inside.input in

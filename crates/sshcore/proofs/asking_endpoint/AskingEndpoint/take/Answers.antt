@@ -26,10 +26,10 @@ returns-in-Err-clause-memory g c = (
 )
 
 -- where a step stopped at a packet, that asks
-asked_of : (m : SuiteData) (role : Side) (party : ConfigData) (i : Input) (old : StateData) (j : Input) (new : StateData) (w : Option WaitingData) (taken before after : List ℕ)
-    → AskingSteps m role party i old j new w taken before after → IsAskedBy m role party new j w
-asked_of m role party i old j new None taken before after steps = tt
-asked_of m role party i old j new (Some w) taken before after stops = λ ongoing. stops.asked
+asked_of : (m : SuiteData) (role : Side) (config : ConfigData) (i : Input) (old : StateData) (j : Input) (new : StateData) (w : Option WaitingData) (taken before after : List ℕ)
+    → AskingSteps m role config i old j new w taken before after → IsAskedBy m role config new j w
+asked_of m role config i old j new None taken before after steps = tt
+asked_of m role config i old j new (Some w) taken before after stops = λ ongoing. stops.asked
 
 pub invariant_of-self : goal.invariant_of-self
 invariant_of-self g c =

@@ -9,14 +9,14 @@ use Rattle.sshcore.specs.EndData.{goes}
 use Rattle.sshcore.specs.Inputs.{Begins}
 use Rattle.sshcore.specs.StateData.{StateData, begun, state_data}
 use Rattle.sshcore.specs.Work.{making}
-use Rattle.sshcore.proofs.Below.{Below}
+use Rattle.sshcore.proofs.LawsBelow.{Below}
 use Rattle.sshcore.proofs.BeginLemmas.{begins_stands}
 use Rattle.sshcore.proofs.HistoryLemmas.{Streams}
 use Rattle.sshcore.proofs.endpoint.Endpoint.begin.Goals as goal
 
 pub returns-clause-made : goal.returns-clause-made
 returns-clause-made g c =
-    let below : Below = record { numbers = c.numbers_law.ensures.kind; alike = c.numbers_law.ensures.alike; right = c.markers_law.ensures.right } in
+    let below : Below = record { numbers = c.numbers_law.ensures.message_number; alike = c.numbers_law.ensures.alike; right = c.markers_law.ensures.right } in
     let streams : Streams = record {
       packets = c.parser_by_law.ensures.packets;
       lines = c.parser_by_law.ensures.lines;

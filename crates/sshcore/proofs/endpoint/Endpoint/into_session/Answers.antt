@@ -3,13 +3,13 @@ use Rattle.sshpacket.specs.PacketReaderData.{packet_reader_data}
 use Rattle.sshcore.specs.EndpointConfig.{setup_of}
 use Rattle.sshcore.specs.EndData.{agreed_data, end_data}
 use Rattle.sshcore.specs.StateData.{state_data}
-use Rattle.sshcore.proofs.Below.{Below}
+use Rattle.sshcore.proofs.LawsBelow.{Below}
 use Rattle.sshcore.proofs.SessionLemmas.{authenticated_at, hands_on, hands_over, none_left, packets_at, session_is}
 use Rattle.sshcore.proofs.endpoint.Endpoint.into_session.Goals as goal
 
 pub returns-clause-session : goal.returns-clause-session
 returns-clause-session g c =
-    let below : Below = record { numbers = c.numbers_law.ensures.kind; alike = c.numbers_law.ensures.alike; right = c.markers_law.ensures.right } in
+    let below : Below = record { numbers = c.numbers_law.ensures.message_number; alike = c.numbers_law.ensures.alike; right = c.markers_law.ensures.right } in
     let kept = state_data c.self.inside.state in
     let i = c.self.inside.input in
     let setup = setup_of (g.S.Suite.meaning c.self.inside.suite.now) (g.D.Decisions.policy c.self.inside.decisions.now) c.self.inside.config in

@@ -8,14 +8,14 @@ use Rattle.sshcore.specs.Exchange.{keys_by}
 use Rattle.sshcore.specs.Inputs.{Steps}
 use Rattle.sshcore.specs.StateData.{state_data}
 use Rattle.sshcore.specs.Standing.{exchange_received}
-use Rattle.sshcore.proofs.Below.{Below}
+use Rattle.sshcore.proofs.LawsBelow.{Below}
 use Rattle.sshcore.proofs.HistoryLemmas.{Streams}
 use Rattle.sshcore.proofs.LineLemmas.{LineLaws, lines_part, lines_refused, lines_whole, named_lines}
 use Rattle.sshcore.proofs.input.Input.receive_asking.Goals as goal
 
 pub returns-in-Whole-clause-steps : goal.returns-in-Whole-clause-steps
 returns-in-Whole-clause-steps g c = λ d.
-    let below : Below = record { numbers = c.numbers_law.ensures.kind; alike = c.numbers_law.ensures.alike; right = c.markers_law.ensures.right } in
+    let below : Below = record { numbers = c.numbers_law.ensures.message_number; alike = c.numbers_law.ensures.alike; right = c.markers_law.ensures.right } in
     let streams : Streams = record {
       packets = c.parser_by_law.ensures.packets;
       lines = c.parser_by_law.ensures.lines;
@@ -42,7 +42,7 @@ returns-in-Whole-clause-steps g c = λ d.
 
 pub returns-in-Part-clause-steps : goal.returns-in-Part-clause-steps
 returns-in-Part-clause-steps g c = λ d.
-    let below : Below = record { numbers = c.numbers_law.ensures.kind; alike = c.numbers_law.ensures.alike; right = c.markers_law.ensures.right } in
+    let below : Below = record { numbers = c.numbers_law.ensures.message_number; alike = c.numbers_law.ensures.alike; right = c.markers_law.ensures.right } in
     let streams : Streams = record {
       packets = c.parser_by_law.ensures.packets;
       lines = c.parser_by_law.ensures.lines;
@@ -70,7 +70,7 @@ returns-in-Part-clause-steps g c = λ d.
 
 pub returns-in-Refused-clause-steps : goal.returns-in-Refused-clause-steps
 returns-in-Refused-clause-steps g c = λ d.
-    let below : Below = record { numbers = c.numbers_law.ensures.kind; alike = c.numbers_law.ensures.alike; right = c.markers_law.ensures.right } in
+    let below : Below = record { numbers = c.numbers_law.ensures.message_number; alike = c.numbers_law.ensures.alike; right = c.markers_law.ensures.right } in
     let streams : Streams = record {
       packets = c.parser_by_law.ensures.packets;
       lines = c.parser_by_law.ensures.lines;

@@ -1,6 +1,6 @@
 use Rattle.std.proofs.Common.{◌≡◌, ◌∙◌, Bool, Option, sym, ℕ}
 use Rattle.sshneg.specs.declared.side.Side.{Side}
-use Rattle.sshcore.specs.declared.table.Phase.{Phase}
+use Rattle.sshcore.specs.declared.phase_table.Phase.{Phase}
 use Rattle.sshcore.specs.Output.{Sending}
 use Rattle.sshcore.specs.RecordData.{AuthenticationRecord, ExchangeRecord, PacketRecord, ReaderRecord, RecordData, held_in}
 use Rattle.sshcore.specs.StateData.{Carried}

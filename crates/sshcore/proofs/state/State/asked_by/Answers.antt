@@ -16,44 +16,44 @@ use Rattle.sshcore.proofs.state.State.asked_by.Goals as goal
 
 pub asked_host_key-requires : goal.asked_host_key-requires
 asked_host_key-requires g c =
-    let has = has_place c.messages_law.ensures.complete c.numbers_law.ensures.kind c.numbers_law.ensures.alike (role_of c.args.config.now) (state_data c.args.self.now) c.args.payload.now (message_data c.args.message.now) c.requires.reads c.requires.spelled in
+    let has = has_place c.messages_law.ensures.complete c.numbers_law.ensures.message_number c.numbers_law.ensures.alike (role_of c.args.config.now) (state_data c.args.self.now) c.args.payload.now (message_data c.args.message.now) c.requires.reads c.requires.spelled in
     (works.at_reply _ _ _ _ has (ap (λ x. number_of (message_data x)) c.in-KexdhReply.is)).phase_is
 
 pub asked_host_key-requires-in-KexEcdhReply : goal.asked_host_key-requires-in-KexEcdhReply
 asked_host_key-requires-in-KexEcdhReply g c =
-    let has = has_place c.messages_law.ensures.complete c.numbers_law.ensures.kind c.numbers_law.ensures.alike (role_of c.args.config.now) (state_data c.args.self.now) c.args.payload.now (message_data c.args.message.now) c.requires.reads c.requires.spelled in
+    let has = has_place c.messages_law.ensures.complete c.numbers_law.ensures.message_number c.numbers_law.ensures.alike (role_of c.args.config.now) (state_data c.args.self.now) c.args.payload.now (message_data c.args.message.now) c.requires.reads c.requires.spelled in
     (works.at_reply _ _ _ _ has (ap (λ x. number_of (message_data x)) c.in-KexEcdhReply.is)).phase_is
 
 pub returns-in-KexdhReply : goal.returns-in-KexdhReply
 returns-in-KexdhReply g c =
-    let has = has_place c.messages_law.ensures.complete c.numbers_law.ensures.kind c.numbers_law.ensures.alike (role_of c.args.config.now) (state_data c.args.self.now) c.args.payload.now (message_data c.args.message.now) c.requires.reads c.requires.spelled in
+    let has = has_place c.messages_law.ensures.complete c.numbers_law.ensures.message_number c.numbers_law.ensures.alike (role_of c.args.config.now) (state_data c.args.self.now) c.args.payload.now (message_data c.args.message.now) c.requires.reads c.requires.spelled in
     IfOk-weaker c.asked_host_key.result _ _ (λ q is. is ∙ kexdh_asks (g.S.Suite.meaning c.args.suite.now) (role_of c.args.config.now) (config_data c.args.config.now) (state_data c.args.self.now).known
     (message_data c.args.message.now) (works.at_reply _ _ _ _ has (ap (λ x. number_of (message_data x)) c.in-KexdhReply.is)).side_is _ _ _ (ap message_data c.in-KexdhReply.is)) c.asked_host_key.ensures
 
 pub returns-in-KexEcdhReply : goal.returns-in-KexEcdhReply
 returns-in-KexEcdhReply g c =
-    let has = has_place c.messages_law.ensures.complete c.numbers_law.ensures.kind c.numbers_law.ensures.alike (role_of c.args.config.now) (state_data c.args.self.now) c.args.payload.now (message_data c.args.message.now) c.requires.reads c.requires.spelled in
+    let has = has_place c.messages_law.ensures.complete c.numbers_law.ensures.message_number c.numbers_law.ensures.alike (role_of c.args.config.now) (state_data c.args.self.now) c.args.payload.now (message_data c.args.message.now) c.requires.reads c.requires.spelled in
     IfOk-weaker c.asked_host_key-in-KexEcdhReply.result _ _ (λ q is. is ∙ kex_ecdh_asks (g.S.Suite.meaning c.args.suite.now) (role_of c.args.config.now) (config_data c.args.config.now) (state_data c.args.self.now).known
     (message_data c.args.message.now) (works.at_reply _ _ _ _ has (ap (λ x. number_of (message_data x)) c.in-KexEcdhReply.is)).side_is _ _ _ (ap message_data c.in-KexEcdhReply.is)) c.asked_host_key-in-KexEcdhReply.ensures
 
 pub asked_init-requires-clause-at : goal.asked_init-requires-clause-at
 asked_init-requires-clause-at g c =
-    let has = has_place c.messages_law.ensures.complete c.numbers_law.ensures.kind c.numbers_law.ensures.alike (role_of c.args.config.now) (state_data c.args.self.now) c.args.payload.now (message_data c.args.message.now) c.requires.reads c.requires.spelled in
+    let has = has_place c.messages_law.ensures.complete c.numbers_law.ensures.message_number c.numbers_law.ensures.alike (role_of c.args.config.now) (state_data c.args.self.now) c.args.payload.now (message_data c.args.message.now) c.requires.reads c.requires.spelled in
     (works.at_init _ _ _ _ has (ap (λ x. number_of (message_data x)) c.in-KexdhInit.is)).phase_is
 
 pub asked_init-requires-clause-server : goal.asked_init-requires-clause-server
 asked_init-requires-clause-server g c =
-    let has = has_place c.messages_law.ensures.complete c.numbers_law.ensures.kind c.numbers_law.ensures.alike (role_of c.args.config.now) (state_data c.args.self.now) c.args.payload.now (message_data c.args.message.now) c.requires.reads c.requires.spelled in
+    let has = has_place c.messages_law.ensures.complete c.numbers_law.ensures.message_number c.numbers_law.ensures.alike (role_of c.args.config.now) (state_data c.args.self.now) c.args.payload.now (message_data c.args.message.now) c.requires.reads c.requires.spelled in
     (works.at_init _ _ _ _ has (ap (λ x. number_of (message_data x)) c.in-KexdhInit.is)).side_is
 
 pub asked_init-requires-in-KexEcdhInit-clause-at : goal.asked_init-requires-in-KexEcdhInit-clause-at
 asked_init-requires-in-KexEcdhInit-clause-at g c =
-    let has = has_place c.messages_law.ensures.complete c.numbers_law.ensures.kind c.numbers_law.ensures.alike (role_of c.args.config.now) (state_data c.args.self.now) c.args.payload.now (message_data c.args.message.now) c.requires.reads c.requires.spelled in
+    let has = has_place c.messages_law.ensures.complete c.numbers_law.ensures.message_number c.numbers_law.ensures.alike (role_of c.args.config.now) (state_data c.args.self.now) c.args.payload.now (message_data c.args.message.now) c.requires.reads c.requires.spelled in
     (works.at_init _ _ _ _ has (ap (λ x. number_of (message_data x)) c.in-KexEcdhInit.is)).phase_is
 
 pub asked_init-requires-in-KexEcdhInit-clause-server : goal.asked_init-requires-in-KexEcdhInit-clause-server
 asked_init-requires-in-KexEcdhInit-clause-server g c =
-    let has = has_place c.messages_law.ensures.complete c.numbers_law.ensures.kind c.numbers_law.ensures.alike (role_of c.args.config.now) (state_data c.args.self.now) c.args.payload.now (message_data c.args.message.now) c.requires.reads c.requires.spelled in
+    let has = has_place c.messages_law.ensures.complete c.numbers_law.ensures.message_number c.numbers_law.ensures.alike (role_of c.args.config.now) (state_data c.args.self.now) c.args.payload.now (message_data c.args.message.now) c.requires.reads c.requires.spelled in
     (works.at_init _ _ _ _ has (ap (λ x. number_of (message_data x)) c.in-KexEcdhInit.is)).side_is
 
 pub asked_init-requires-clause-short : goal.asked_init-requires-clause-short
@@ -76,7 +76,7 @@ asked_attempt-requires g c = record { accepted = next_accepted c.in-UserauthFail
 
 pub returns-in-KexdhInit : goal.returns-in-KexdhInit
 returns-in-KexdhInit g c =
-    let has = has_place c.messages_law.ensures.complete c.numbers_law.ensures.kind c.numbers_law.ensures.alike (role_of c.args.config.now) (state_data c.args.self.now) c.args.payload.now (message_data c.args.message.now) c.requires.reads c.requires.spelled in
+    let has = has_place c.messages_law.ensures.complete c.numbers_law.ensures.message_number c.numbers_law.ensures.alike (role_of c.args.config.now) (state_data c.args.self.now) c.args.payload.now (message_data c.args.message.now) c.requires.reads c.requires.spelled in
     let side = (works.at_init _ _ _ _ has (ap (λ x. number_of (message_data x)) c.in-KexdhInit.is)).side_is in
     IfOk-weaker c.asked_init.result _ _ (λ q asks. asks (message_data c.args.message.now) (ap (λ (x : MessageData). share_read (Ok x)) (ap message_data c.in-KexdhInit.is) ∙ sym c.body.ensures.body)
     ∙ kexdh_init_asks (g.S.Suite.meaning c.args.suite.now) (role_of c.args.config.now) (config_data c.args.config.now) (state_data c.args.self.now).known (message_data c.args.message.now) side
@@ -84,7 +84,7 @@ returns-in-KexdhInit g c =
 
 pub returns-in-KexEcdhInit : goal.returns-in-KexEcdhInit
 returns-in-KexEcdhInit g c =
-    let has = has_place c.messages_law.ensures.complete c.numbers_law.ensures.kind c.numbers_law.ensures.alike (role_of c.args.config.now) (state_data c.args.self.now) c.args.payload.now (message_data c.args.message.now) c.requires.reads c.requires.spelled in
+    let has = has_place c.messages_law.ensures.complete c.numbers_law.ensures.message_number c.numbers_law.ensures.alike (role_of c.args.config.now) (state_data c.args.self.now) c.args.payload.now (message_data c.args.message.now) c.requires.reads c.requires.spelled in
     let side = (works.at_init _ _ _ _ has (ap (λ x. number_of (message_data x)) c.in-KexEcdhInit.is)).side_is in
     IfOk-weaker c.asked_init-in-KexEcdhInit.result _ _ (λ q asks. asks (message_data c.args.message.now) (ap (λ (x : MessageData). share_read (Ok x)) (ap message_data c.in-KexEcdhInit.is))
     ∙ kex_ecdh_init_asks (g.S.Suite.meaning c.args.suite.now) (role_of c.args.config.now) (config_data c.args.config.now) (state_data c.args.self.now).known (message_data c.args.message.now) side

@@ -16,18 +16,18 @@ same_signature a x b y i j p q r = cc
 pub returns-then-holds : goal.returns-then-holds
 returns-then-holds g c = λ message read.
     let m = g.S.Suite.meaning c.args.suite.now in
-    let party = config_data c.args.config.now in
+    let config = config_data c.args.config.now in
     let known = (state_data c.args.self.now).known in
-    let held : m.holds known.algorithms.host_key (secret_of party.host_keys known.algorithms.host_key) ≡ true = search rules in
-    held_asks_none m party known message c.args.share.now read held
+    let held : m.holds known.algorithms.host_key (secret_of config.host_keys known.algorithms.host_key) ≡ true = search rules in
+    held_asks_none m config known message c.args.share.now read held
 
 pub returns-in_default : goal.returns-in_default
 returns-in_default g c = λ message read.
     let m = g.S.Suite.meaning c.args.suite.now in
-    let party = config_data c.args.config.now in
+    let config = config_data c.args.config.now in
     let known = (state_data c.args.self.now).known in
-    refused_asks_none m party known message c.args.share.now read
-    (given_none c.in_ok-response.field-0 (m.respond known.algorithms.kex party.random c.args.share.now) c.in_ok-response.ensures c.in_default.is)
+    refused_asks_none m config known message c.args.share.now read
+    (given_none c.in_ok-response.field-0 (m.respond known.algorithms.kex config.random c.args.share.now) c.in_ok-response.ensures c.in_default.is)
 
 pub hash-requires-clause-server_share : goal.hash-requires-clause-server_share
 hash-requires-clause-server_share g c =
@@ -49,12 +49,12 @@ pub returns : goal.returns
 returns g c = λ message read.
     let m = g.S.Suite.meaning c.args.suite.now in
     let role = role_of c.args.config.now in
-    let party = config_data c.args.config.now in
+    let config = config_data c.args.config.now in
     let known = (state_data c.args.self.now).known in
     let answer = response_data c.in-Some.response in
-    let given = given_answer c.in_ok-response.field-0 (m.respond known.algorithms.kex party.random c.args.share.now) c.in-Some.response c.in_ok-response.ensures c.in-Some.is in
-    let off : m.holds known.algorithms.host_key (secret_of party.host_keys known.algorithms.host_key) ≡ false = search rules in
+    let given = given_answer c.in_ok-response.field-0 (m.respond known.algorithms.kex config.random c.args.share.now) c.in-Some.response c.in_ok-response.ensures c.in-Some.is in
+    let off : m.holds known.algorithms.host_key (secret_of config.host_keys known.algorithms.host_key) ≡ false = search rules in
     let name : string_bytes c.in_ok-algorithm.algorithm ≡ known.algorithms.host_key = search rules in
-    let blob : c.in_ok-blob.blob.items ≡ m.blob known.algorithms.host_key (secret_of party.host_keys known.algorithms.host_key) = search rules in
-    let input : c.in_ok-input.input.items ≡ exchange_hash m known.algorithms.kex (exchanged role party known (server_shares m party known c.args.share.now answer)) = search rules in
-    same_signature _ _ _ _ _ _ name blob input ∙ unheld_asks m party known message c.args.share.now read role answer c.requires.server given off
+    let blob : c.in_ok-blob.blob.items ≡ m.blob known.algorithms.host_key (secret_of config.host_keys known.algorithms.host_key) = search rules in
+    let input : c.in_ok-input.input.items ≡ exchange_hash m known.algorithms.kex (exchanged role config known (server_shares m config known c.args.share.now answer)) = search rules in
+    same_signature _ _ _ _ _ _ name blob input ∙ unheld_asks m config known message c.args.share.now read role answer c.requires.server given off

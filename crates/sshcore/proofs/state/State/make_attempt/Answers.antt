@@ -3,7 +3,7 @@ use Rattle.std.proofs.lemmas.List.{length-map}
 use Rattle.std.proofs.lemmas.Result.{on_ok_weaker}
 use Rattle.sshcore.specs.Attempts.{attempt_reply, request_of}
 use Rattle.sshcore.specs.ConfigView.{attempt_data}
-use Rattle.sshcore.specs.Made.{IsMade}
+use Rattle.sshcore.specs.MadePayloads.{IsMade}
 use Rattle.sshcore.specs.Plan.{first_made}
 use Rattle.sshcore.proofs.AttemptLemmas.{left_none, left_some, quiet_request, split_none, split_some}
 use Rattle.sshcore.proofs.GivesLemmas.{gives_by, gives_one, on_both}

@@ -4,8 +4,8 @@ use Rattle.sshmsg.specs.View.{method_data}
 use Rattle.sshcore.specs.Authenticating.{counted_request, tried_key}
 use Rattle.sshcore.specs.EndpointConfig.{config_data}
 use Rattle.sshcore.specs.StateData.{StateData, state_data}
-use Rattle.sshcore.specs.Known.{Known}
-use Rattle.sshcore.specs.Reached.{Tried}
+use Rattle.sshcore.specs.KnownBefore.{Known}
+use Rattle.sshcore.specs.CompletedMethods.{Tried}
 use Rattle.sshcore.specs.Requests.{is_successful}
 use Rattle.sshcore.specs.Tries.{key_of, tried_with}
 use Rattle.sshcore.proofs.GivesLemmas.{gives_by}
@@ -37,26 +37,26 @@ pub returns-clause-gives : goal.returns-clause-gives
 returns-clause-gives g c =
     let m = g.S.Suite.meaning c.args.suite.now in
     let d = g.D.Decisions.policy c.args.decisions.now in
-    let party = config_data c.args.config.now in
+    let config = config_data c.args.config.now in
     let known : Known = (state_data c.args.self.now).known in
     let method = method_data c.args.method.now in
     let other = no_query c.args.method.now c.in_default-method.not-PublicKeyQuery in
     on_ok_weaker c.decide.result (λ given strict next.
-    gives_by _ _ strict next _ _ _ _ _ _ (reply_other m d party known c.args.user.now c.args.service.now method c.service.result c.service.ensures.service c.in-Some.service c.in-Some.is c.in_ok-successful.successful
-    (tried_method m d party known c.args.user.now c.args.service.now method other) (sym c.in_ok-successful.ensures)) (given strict next)) c.decide.ensures.gives
+    gives_by _ _ strict next _ _ _ _ _ _ (reply_other m d config known c.args.user.now c.args.service.now method c.service.result c.service.ensures.service c.in-Some.service c.in-Some.is c.in_ok-successful.successful
+    (tried_method m d config known c.args.user.now c.args.service.now method other) (sym c.in_ok-successful.ensures)) (given strict next)) c.decide.ensures.gives
 
 pub returns-clause-stays : goal.returns-clause-stays
 returns-clause-stays g c =
     let m = g.S.Suite.meaning c.args.suite.now in
     let d = g.D.Decisions.policy c.args.decisions.now in
-    let party = config_data c.args.config.now in
+    let config = config_data c.args.config.now in
     let old : StateData = state_data c.args.self.now in
     let method = method_data c.args.method.now in
     let new : StateData = state_data c.decide.new.self in
     let found = had _ c.args.service.now c.service.result c.in-Some.service c.service.ensures.service c.in-Some.is in
-    let named : is_successful m d party old.known c.args.user.now c.args.service.now method ≡ c.in_ok-successful.successful =
-    ap (λ (s : List ℕ). is_successful m d party old.known c.args.user.now s method) (sym found.1) ∙ sym c.in_ok-successful.ensures in
+    let named : is_successful m d config old.known c.args.user.now c.args.service.now method ≡ c.in_ok-successful.successful =
+    ap (λ (s : List ℕ). is_successful m d config old.known c.args.user.now s method) (sym found.1) ∙ sym c.in_ok-successful.ensures in
     on_ok_weaker c.decide.result (λ stays goes_on. stays goes_on
     ∙ ap (λ (t : Tried). record old { end = new.end; known = counted_request old.known t; carried = tried_key old.carried method c.in_ok-successful.successful; sending = new.sending })
-    (other_tried m d party old.known c.args.user.now c.args.service.now c.in-Some.service.now method found.1 c.in_ok-successful.successful (sym c.in_ok-successful.ensures))
-    ∙ ap (λ (b : Bool). record old { end = new.end; known = counted_request old.known (tried_with c.args.user.now c.args.service.now method (is_successful m d party old.known c.args.user.now c.args.service.now method)); carried = tried_key old.carried method b; sending = new.sending }) (sym named)) c.decide.ensures.stays
+    (other_tried m d config old.known c.args.user.now c.args.service.now c.in-Some.service.now method found.1 c.in_ok-successful.successful (sym c.in_ok-successful.ensures))
+    ∙ ap (λ (b : Bool). record old { end = new.end; known = counted_request old.known (tried_with c.args.user.now c.args.service.now method (is_successful m d config old.known c.args.user.now c.args.service.now method)); carried = tried_key old.carried method b; sending = new.sending }) (sym named)) c.decide.ensures.stays

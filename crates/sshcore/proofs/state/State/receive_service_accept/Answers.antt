@@ -8,7 +8,7 @@ use Rattle.sshcore.specs.Attempts.{attempt_reply}
 use Rattle.sshcore.specs.EndData.{Reply, fails}
 use Rattle.sshcore.specs.EndpointParts.{DecisionsData}
 use Rattle.sshcore.specs.StateData.{state_data}
-use Rattle.sshcore.specs.Known.{Known}
+use Rattle.sshcore.specs.KnownBefore.{Known}
 use Rattle.sshcore.specs.Work.{accept_reply, userauth}
 use Rattle.sshcore.proofs.GivesLemmas.{gives_by, gives_from}
 use Rattle.sshcore.proofs.state.State.receive_service_accept.Goals as goal

@@ -23,15 +23,15 @@ on true x y e = refl
 on false x y e = absurd cc
 
 accepted : ConfigData → Reply
-accepted party = goes (written_message (ServiceAccept userauth) ∷ banner_by party.banner)
+accepted config = goes (written_message (ServiceAccept userauth) ∷ banner_by config.banner)
 
-refuses : (party : ConfigData) (service : List ℕ) → true ≡ not (bytes_eq service userauth) → fails fault.Service ≡ service_reply party service
+refuses : (config : ConfigData) (service : List ℕ) → true ≡ not (bytes_eq service userauth) → fails fault.Service ≡ service_reply config service
 unfolding accepted
-refuses party service e = off (bytes_eq service userauth) (accepted party) (fails fault.Service) e
+refuses config service e = off (bytes_eq service userauth) (accepted config) (fails fault.Service) e
 
-accepts : (party : ConfigData) (service : List ℕ) → false ≡ not (bytes_eq service userauth) → goes (written_message (ServiceAccept userauth) ∷ banner_by party.banner) ≡ service_reply party service
+accepts : (config : ConfigData) (service : List ℕ) → false ≡ not (bytes_eq service userauth) → goes (written_message (ServiceAccept userauth) ∷ banner_by config.banner) ≡ service_reply config service
 unfolding accepted
-accepts party service e = on (bytes_eq service userauth) (accepted party) (fails fault.Service) e
+accepts config service e = on (bytes_eq service userauth) (accepted config) (fails fault.Service) e
 
 pub returns-then-ne-clause-gives : goal.returns-then-ne-clause-gives
 returns-then-ne-clause-gives g c = on_ok_weaker c.fail.result (λ given strict next.

@@ -11,10 +11,10 @@ pub returns-clause-gives : goal.returns-clause-gives
 returns-clause-gives g c =
     let m = g.S.Suite.meaning c.args.suite.now in
     let role = role_of c.args.config.now in
-    let party = config_data c.args.config.now in
+    let config = config_data c.args.config.now in
     let sent = c.send_making.new.sent.items in
-    let lines = c.in_ok-send_lines.ensures ∙ ap (λ (l : List ℕ). l ++ preamble_of party) c.new-sent.ensures.items in (
+    let lines = c.in_ok-send_lines.ensures ∙ ap (λ (l : List ℕ). l ++ preamble_of config) c.new-sent.ensures.items in (
       sent,
       c.in_ok-extend_from_slice.ensures.items ∙ ap (λ (l : List ℕ). c.args.out.now.items ++ l) c.deref.ensures.value,
-      λ strict next. subst (λ (l : List ℕ). Gives m party.seed strict next (state_data c.args.self.now) (state_data c.send_making.new.self) l sent (goes (making m role party))) lines (c.in_ok-send_making.ensures.gives strict next),
+      λ strict next. subst (λ (l : List ℕ). Gives m config.seed strict next (state_data c.args.self.now) (state_data c.send_making.new.self) l sent (goes (making m role config))) lines (c.in_ok-send_making.ensures.gives strict next),
     )

@@ -12,9 +12,9 @@ use Rattle.sshcore.proofs.GivesLemmas.{gives_as, gives_nothing, gives_one, on_bo
 use Rattle.sshcore.proofs.state.State.send_guess.Goals as goal
 
 -- none is made
-unguessed : (m : SuiteData) (role : Side) (party : ConfigData) → false ≡ party.offer.first_kex_packet_follows → [] ≡ guess_of m role party
-unguessed m Server party e = refl
-unguessed m Client party e = ap (λ (b : Bool). cond b (init_for m party (guessed_method party) ∷ []) []) e
+unguessed : (m : SuiteData) (role : Side) (config : ConfigData) → false ≡ config.offer.first_kex_packet_follows → [] ≡ guess_of m role config
+unguessed m Server config e = refl
+unguessed m Client config e = ap (λ (b : Bool). cond b (init_for m config (guessed_method config) ∷ []) []) e
 
 -- one is made, so by a client
 guessed : (m : SuiteData) (c : Config) → true ≡ (config_data c).offer.first_kex_packet_follows → init_for m (config_data c) (guessed_method (config_data c)) ∷ [] ≡ guess_of m (role_of c) (config_data c)

@@ -20,15 +20,15 @@ sent_by : (b : Bool) (xs : Units) → not b ≡ true → xs ≡ cond b [] xs
 sent_by true xs e = absurd cc
 sent_by false xs e = refl
 
-module _ (m : SuiteData) (party : ConfigData) (right : Bool) (kex : List ℕ) (opens : Bool) where
-  unsent : (role : Side) → (role ≡ Client → opens ≡ not (party.offer.first_kex_packet_follows && right)) → opens ≡ false → [] ≡ sends_init m role party right kex
+module _ (m : SuiteData) (config : ConfigData) (right : Bool) (kex : List ℕ) (opens : Bool) where
+  unsent : (role : Side) → (role ≡ Client → opens ≡ not (config.offer.first_kex_packet_follows && right)) → opens ≡ false → [] ≡ sends_init m role config right kex
   unsent Server client e = refl
-  unsent Client client e = unsent_by (party.offer.first_kex_packet_follows && right) (init_for m party kex ∷ []) (sym (client refl) ∙ e)
+  unsent Client client e = unsent_by (config.offer.first_kex_packet_follows && right) (init_for m config kex ∷ []) (sym (client refl) ∙ e)
 
-  sent : (role : Side) → (role ≡ Client → opens ≡ not (party.offer.first_kex_packet_follows && right)) → (role ≡ Server → opens ≡ false) → opens ≡ true
-      → init_for m party kex ∷ [] ≡ sends_init m role party right kex
+  sent : (role : Side) → (role ≡ Client → opens ≡ not (config.offer.first_kex_packet_follows && right)) → (role ≡ Server → opens ≡ false) → opens ≡ true
+      → init_for m config kex ∷ [] ≡ sends_init m role config right kex
   sent Server client server e = absurd (true≢false (sym e ∙ server refl))
-  sent Client client server e = sent_by (party.offer.first_kex_packet_follows && right) (init_for m party kex ∷ []) (sym (client refl) ∙ e)
+  sent Client client server e = sent_by (config.offer.first_kex_packet_follows && right) (init_for m config kex ∷ []) (sym (client refl) ∙ e)
 
 pub returns-then-not-opens-clause-gives : goal.returns-then-not-opens-clause-gives
 returns-then-not-opens-clause-gives g c = λ strict next.

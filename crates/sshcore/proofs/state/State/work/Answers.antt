@@ -12,29 +12,29 @@ use Rattle.sshcore.proofs.state.State.work.Goals as goal
 
 pub receive_kexinit-requires-clause-read : goal.receive_kexinit-requires-clause-read
 receive_kexinit-requires-clause-read g c =
-    let has = has_place c.messages_law.ensures.complete c.numbers_law.ensures.kind c.numbers_law.ensures.alike (role_of c.args.config.now) (state_data c.args.self.now) c.args.payload.now (message_data c.args.message.now) c.requires.reads c.requires.spelled in
+    let has = has_place c.messages_law.ensures.complete c.numbers_law.ensures.message_number c.numbers_law.ensures.alike (role_of c.args.config.now) (state_data c.args.self.now) c.args.payload.now (message_data c.args.message.now) c.requires.reads c.requires.spelled in
     has.offers (kexinit_data c.deref.result.now) (ap message_data c.in-KexInit.is ∙ ap (λ k. content.KexInit (kexinit_data k)) (sym c.deref.ensures))
 
 pub receive_new_keys-requires : goal.receive_new_keys-requires
 receive_new_keys-requires g c =
-    let has = has_place c.messages_law.ensures.complete c.numbers_law.ensures.kind c.numbers_law.ensures.alike (role_of c.args.config.now) (state_data c.args.self.now) c.args.payload.now (message_data c.args.message.now) c.requires.reads c.requires.spelled in
+    let has = has_place c.messages_law.ensures.complete c.numbers_law.ensures.message_number c.numbers_law.ensures.alike (role_of c.args.config.now) (state_data c.args.self.now) c.args.payload.now (message_data c.args.message.now) c.requires.reads c.requires.spelled in
     (works.at_newkeys _ _ _ _ has (ap (λ x. number_of (message_data x)) c.in-NewKeys.is)).phase_is
 
 pub receive_service_request-requires-clause-at : goal.receive_service_request-requires-clause-at
 receive_service_request-requires-clause-at g c =
-    let has = has_place c.messages_law.ensures.complete c.numbers_law.ensures.kind c.numbers_law.ensures.alike (role_of c.args.config.now) (state_data c.args.self.now) c.args.payload.now (message_data c.args.message.now) c.requires.reads c.requires.spelled in
+    let has = has_place c.messages_law.ensures.complete c.numbers_law.ensures.message_number c.numbers_law.ensures.alike (role_of c.args.config.now) (state_data c.args.self.now) c.args.payload.now (message_data c.args.message.now) c.requires.reads c.requires.spelled in
     (works.at_request _ _ _ _ has (ap (λ x. number_of (message_data x)) c.in-ServiceRequest.is)).phase_is
 
 pub returns-in-Disconnect-clause-works : goal.returns-in-Disconnect-clause-works
 returns-in-Disconnect-clause-works g c = λ _.
     let setup = setup_of (g.S.Suite.meaning c.args.suite.now) (g.D.Decisions.policy c.args.decisions.now) c.args.config.now in
-    let has = has_place c.messages_law.ensures.complete c.numbers_law.ensures.kind c.numbers_law.ensures.alike (role_of c.args.config.now) (state_data c.args.self.now) c.args.payload.now (message_data c.args.message.now) c.requires.reads c.requires.spelled in
+    let has = has_place c.messages_law.ensures.complete c.numbers_law.ensures.message_number c.numbers_law.ensures.alike (role_of c.args.config.now) (state_data c.args.self.now) c.args.payload.now (message_data c.args.message.now) c.requires.reads c.requires.spelled in
     works.disconnect_works setup _ _ _ _ _ has c.in-Disconnect.reason c.in-Disconnect.description.now c.in-Disconnect.language.now (ap message_data c.in-Disconnect.is) (ap end_data c.set.ensures) refl
 
 pub returns-in-KexInit-clause-works : goal.returns-in-KexInit-clause-works
 returns-in-KexInit-clause-works g c =
     let setup = setup_of (g.S.Suite.meaning c.args.suite.now) (g.D.Decisions.policy c.args.decisions.now) c.args.config.now in
-    let has = has_place c.messages_law.ensures.complete c.numbers_law.ensures.kind c.numbers_law.ensures.alike (role_of c.args.config.now) (state_data c.args.self.now) c.args.payload.now (message_data c.args.message.now) c.requires.reads c.requires.spelled in
+    let has = has_place c.messages_law.ensures.complete c.numbers_law.ensures.message_number c.numbers_law.ensures.alike (role_of c.args.config.now) (state_data c.args.self.now) c.args.payload.now (message_data c.args.message.now) c.requires.reads c.requires.spelled in
     let is : message_data c.args.message.now ≡ content.KexInit (kexinit_data c.deref.result.now) = ap message_data c.in-KexInit.is ∙ ap (λ k. content.KexInit (kexinit_data k)) (sym c.deref.ensures) in
     on_four c.receive_kexinit.result c.receive_kexinit.ensures.gives c.receive_kexinit.ensures.form c.receive_kexinit.ensures.carries c.receive_kexinit.ensures.moves (λ gives form keys moves _.
     works.kexinit_works setup _ _ _ _ _ _ has (kexinit_data c.deref.result.now) is gives form keys moves)
@@ -42,7 +42,7 @@ returns-in-KexInit-clause-works g c =
 pub returns-in_default-clause-works : goal.returns-in_default-clause-works
 returns-in_default-clause-works g c = λ _.
     let setup = setup_of (g.S.Suite.meaning c.args.suite.now) (g.D.Decisions.policy c.args.decisions.now) c.args.config.now in
-    let has = has_place c.messages_law.ensures.complete c.numbers_law.ensures.kind c.numbers_law.ensures.alike (role_of c.args.config.now) (state_data c.args.self.now) c.args.payload.now (message_data c.args.message.now) c.requires.reads c.requires.spelled in
+    let has = has_place c.messages_law.ensures.complete c.numbers_law.ensures.message_number c.numbers_law.ensures.alike (role_of c.args.config.now) (state_data c.args.self.now) c.args.payload.now (message_data c.args.message.now) c.requires.reads c.requires.spelled in
     let none : IsNone c.args.message.now = record {
       disconnect = c.in_default.not-Disconnect;
       request = c.in_default.not-ServiceRequest;
@@ -64,24 +64,24 @@ returns-in_default-clause-works g c = λ _.
 pub returns-in-NewKeys-clause-works : goal.returns-in-NewKeys-clause-works
 returns-in-NewKeys-clause-works g c = λ _.
     let setup = setup_of (g.S.Suite.meaning c.args.suite.now) (g.D.Decisions.policy c.args.decisions.now) c.args.config.now in
-    let has = has_place c.messages_law.ensures.complete c.numbers_law.ensures.kind c.numbers_law.ensures.alike (role_of c.args.config.now) (state_data c.args.self.now) c.args.payload.now (message_data c.args.message.now) c.requires.reads c.requires.spelled in
+    let has = has_place c.messages_law.ensures.complete c.numbers_law.ensures.message_number c.numbers_law.ensures.alike (role_of c.args.config.now) (state_data c.args.self.now) c.args.payload.now (message_data c.args.message.now) c.requires.reads c.requires.spelled in
     works.newkeys_works setup _ _ _ _ _ has (ap message_data c.in-NewKeys.is) c.requires.open c.receive_new_keys.ensures
 
 pub returns-in-ServiceRequest-clause-works : goal.returns-in-ServiceRequest-clause-works
 returns-in-ServiceRequest-clause-works g c =
     let setup = setup_of (g.S.Suite.meaning c.args.suite.now) (g.D.Decisions.policy c.args.decisions.now) c.args.config.now in
-    let has = has_place c.messages_law.ensures.complete c.numbers_law.ensures.kind c.numbers_law.ensures.alike (role_of c.args.config.now) (state_data c.args.self.now) c.args.payload.now (message_data c.args.message.now) c.requires.reads c.requires.spelled in
+    let has = has_place c.messages_law.ensures.complete c.numbers_law.ensures.message_number c.numbers_law.ensures.alike (role_of c.args.config.now) (state_data c.args.self.now) c.args.payload.now (message_data c.args.message.now) c.requires.reads c.requires.spelled in
     on_three c.receive_service_request.result c.receive_service_request.ensures.gives c.receive_service_request.ensures.carries c.receive_service_request.ensures.stands (λ gives keys stands _.
     works.request_works setup _ _ _ _ _ _ has c.in-ServiceRequest.service.now (ap message_data c.in-ServiceRequest.is) gives keys stands)
 
 pub returns-in-ServiceAccept-clause-works : goal.returns-in-ServiceAccept-clause-works
 returns-in-ServiceAccept-clause-works g c =
     let setup = setup_of (g.S.Suite.meaning c.args.suite.now) (g.D.Decisions.policy c.args.decisions.now) c.args.config.now in
-    let has = has_place c.messages_law.ensures.complete c.numbers_law.ensures.kind c.numbers_law.ensures.alike (role_of c.args.config.now) (state_data c.args.self.now) c.args.payload.now (message_data c.args.message.now) c.requires.reads c.requires.spelled in
+    let has = has_place c.messages_law.ensures.complete c.numbers_law.ensures.message_number c.numbers_law.ensures.alike (role_of c.args.config.now) (state_data c.args.self.now) c.args.payload.now (message_data c.args.message.now) c.requires.reads c.requires.spelled in
     on_three c.receive_service_accept.result c.receive_service_accept.ensures.gives c.receive_service_accept.ensures.carries c.receive_service_accept.ensures.stands (λ gives keys stands _.
     works.accept_works setup _ _ _ _ _ _ has c.in-ServiceAccept.service.now (ap message_data c.in-ServiceAccept.is) gives keys stands)
 
 pub receive_service_accept-requires-clause-at : goal.receive_service_accept-requires-clause-at
 receive_service_accept-requires-clause-at g c =
-    let has = has_place c.messages_law.ensures.complete c.numbers_law.ensures.kind c.numbers_law.ensures.alike (role_of c.args.config.now) (state_data c.args.self.now) c.args.payload.now (message_data c.args.message.now) c.requires.reads c.requires.spelled in
+    let has = has_place c.messages_law.ensures.complete c.numbers_law.ensures.message_number c.numbers_law.ensures.alike (role_of c.args.config.now) (state_data c.args.self.now) c.args.payload.now (message_data c.args.message.now) c.requires.reads c.requires.spelled in
     (works.at_accept _ _ _ _ has (ap (λ x. number_of (message_data x)) c.in-ServiceAccept.is)).phase_is

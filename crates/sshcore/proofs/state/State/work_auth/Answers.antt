@@ -12,7 +12,7 @@ use Rattle.sshcore.proofs.state.State.work_auth.Goals as goal
 
 pub receive_request-requires-clause-at : goal.receive_request-requires-clause-at
 receive_request-requires-clause-at g c =
-    let has = has_place c.messages_law.ensures.complete c.numbers_law.ensures.kind c.numbers_law.ensures.alike (role_of c.args.config.now) (state_data c.args.self.now) c.args.payload.now (message_data c.args.message.now) c.requires.reads c.requires.spelled in
+    let has = has_place c.messages_law.ensures.complete c.numbers_law.ensures.message_number c.numbers_law.ensures.alike (role_of c.args.config.now) (state_data c.args.self.now) c.args.payload.now (message_data c.args.message.now) c.requires.reads c.requires.spelled in
     (works.at_user_request _ _ _ _ has (ap (λ x. number_of (message_data x)) c.in-UserauthRequest.is)).phase_is
 
 pub receive_request-requires-clause-user : goal.receive_request-requires-clause-user
@@ -33,33 +33,33 @@ receive_request-requires-clause-method g c =
 
 pub receive_success-requires-clause-at : goal.receive_success-requires-clause-at
 receive_success-requires-clause-at g c =
-    let has = has_place c.messages_law.ensures.complete c.numbers_law.ensures.kind c.numbers_law.ensures.alike (role_of c.args.config.now) (state_data c.args.self.now) c.args.payload.now (message_data c.args.message.now) c.requires.reads c.requires.spelled in
+    let has = has_place c.messages_law.ensures.complete c.numbers_law.ensures.message_number c.numbers_law.ensures.alike (role_of c.args.config.now) (state_data c.args.self.now) c.args.payload.now (message_data c.args.message.now) c.requires.reads c.requires.spelled in
     (works.at_success _ _ _ _ has (ap (λ x. number_of (message_data x)) c.in-UserauthSuccess.is)).phase_is
 
 pub returns-in-UserauthRequest-clause-works : goal.returns-in-UserauthRequest-clause-works
 returns-in-UserauthRequest-clause-works g c =
     let setup = setup_of (g.S.Suite.meaning c.args.suite.now) (g.D.Decisions.policy c.args.decisions.now) c.args.config.now in
-    let has = has_place c.messages_law.ensures.complete c.numbers_law.ensures.kind c.numbers_law.ensures.alike (role_of c.args.config.now) (state_data c.args.self.now) c.args.payload.now (message_data c.args.message.now) c.requires.reads c.requires.spelled in
+    let has = has_place c.messages_law.ensures.complete c.numbers_law.ensures.message_number c.numbers_law.ensures.alike (role_of c.args.config.now) (state_data c.args.self.now) c.args.payload.now (message_data c.args.message.now) c.requires.reads c.requires.spelled in
     on_two c.receive_request.result c.receive_request.ensures.gives c.receive_request.ensures.stays (λ gives stays _.
     works.user_request_works setup _ _ _ _ _ _ has c.in-UserauthRequest.user.now c.in-UserauthRequest.service.now (method_data c.in-UserauthRequest.method) (ap message_data c.in-UserauthRequest.is) gives stays)
 
 pub returns-in-UserauthFailure-clause-works : goal.returns-in-UserauthFailure-clause-works
 returns-in-UserauthFailure-clause-works g c =
     let setup = setup_of (g.S.Suite.meaning c.args.suite.now) (g.D.Decisions.policy c.args.decisions.now) c.args.config.now in
-    let has = has_place c.messages_law.ensures.complete c.numbers_law.ensures.kind c.numbers_law.ensures.alike (role_of c.args.config.now) (state_data c.args.self.now) c.args.payload.now (message_data c.args.message.now) c.requires.reads c.requires.spelled in
+    let has = has_place c.messages_law.ensures.complete c.numbers_law.ensures.message_number c.numbers_law.ensures.alike (role_of c.args.config.now) (state_data c.args.self.now) c.args.payload.now (message_data c.args.message.now) c.requires.reads c.requires.spelled in
     on_two c.receive_failure.result c.receive_failure.ensures.gives c.receive_failure.ensures.stays (λ gives stays _.
     works.failure_works setup _ _ _ _ _ _ has c.in-UserauthFailure.methods c.in-UserauthFailure.partial_success (ap message_data c.in-UserauthFailure.is) gives stays)
 
 pub returns-in-UserauthSuccess-clause-works : goal.returns-in-UserauthSuccess-clause-works
 returns-in-UserauthSuccess-clause-works g c =
     let setup = setup_of (g.S.Suite.meaning c.args.suite.now) (g.D.Decisions.policy c.args.decisions.now) c.args.config.now in
-    let has = has_place c.messages_law.ensures.complete c.numbers_law.ensures.kind c.numbers_law.ensures.alike (role_of c.args.config.now) (state_data c.args.self.now) c.args.payload.now (message_data c.args.message.now) c.requires.reads c.requires.spelled in
+    let has = has_place c.messages_law.ensures.complete c.numbers_law.ensures.message_number c.numbers_law.ensures.alike (role_of c.args.config.now) (state_data c.args.self.now) c.args.payload.now (message_data c.args.message.now) c.requires.reads c.requires.spelled in
     on_two c.receive_success.result c.receive_success.ensures.gives c.receive_success.ensures.stays (λ gives stays _.
     works.success_works setup _ _ _ _ _ _ has (ap message_data c.in-UserauthSuccess.is) gives stays)
 
 pub returns-in-UserauthPkOk-clause-works : goal.returns-in-UserauthPkOk-clause-works
 returns-in-UserauthPkOk-clause-works g c =
     let setup = setup_of (g.S.Suite.meaning c.args.suite.now) (g.D.Decisions.policy c.args.decisions.now) c.args.config.now in
-    let has = has_place c.messages_law.ensures.complete c.numbers_law.ensures.kind c.numbers_law.ensures.alike (role_of c.args.config.now) (state_data c.args.self.now) c.args.payload.now (message_data c.args.message.now) c.requires.reads c.requires.spelled in
+    let has = has_place c.messages_law.ensures.complete c.numbers_law.ensures.message_number c.numbers_law.ensures.alike (role_of c.args.config.now) (state_data c.args.self.now) c.args.payload.now (message_data c.args.message.now) c.requires.reads c.requires.spelled in
     on_two c.receive_pk_ok.result c.receive_pk_ok.ensures.gives c.receive_pk_ok.ensures.stays (λ gives stays _.
     works.pk_ok_works setup _ _ _ _ _ _ has c.in-UserauthPkOk.algorithm.now c.in-UserauthPkOk.key.now (ap message_data c.in-UserauthPkOk.is) gives stays)

@@ -15,12 +15,12 @@ use Rattle.sshcore.proofs.state.State.work_exchange.Goals as goal
 
 pub receive_init-requires-clause-at : goal.receive_init-requires-clause-at
 receive_init-requires-clause-at g c =
-    let has = has_place c.messages_law.ensures.complete c.numbers_law.ensures.kind c.numbers_law.ensures.alike (role_of c.args.config.now) (state_data c.args.self.now) c.args.payload.now (message_data c.args.message.now) c.requires.reads c.requires.spelled in
+    let has = has_place c.messages_law.ensures.complete c.numbers_law.ensures.message_number c.numbers_law.ensures.alike (role_of c.args.config.now) (state_data c.args.self.now) c.args.payload.now (message_data c.args.message.now) c.requires.reads c.requires.spelled in
     (works.at_init _ _ _ _ has (ap (λ x. number_of (message_data x)) c.in-KexdhInit.is)).phase_is
 
 pub receive_init-requires-clause-server : goal.receive_init-requires-clause-server
 receive_init-requires-clause-server g c =
-    let has = has_place c.messages_law.ensures.complete c.numbers_law.ensures.kind c.numbers_law.ensures.alike (role_of c.args.config.now) (state_data c.args.self.now) c.args.payload.now (message_data c.args.message.now) c.requires.reads c.requires.spelled in
+    let has = has_place c.messages_law.ensures.complete c.numbers_law.ensures.message_number c.numbers_law.ensures.alike (role_of c.args.config.now) (state_data c.args.self.now) c.args.payload.now (message_data c.args.message.now) c.requires.reads c.requires.spelled in
     (works.at_init _ _ _ _ has (ap (λ x. number_of (message_data x)) c.in-KexdhInit.is)).side_is
 
 pub receive_init-requires-clause-short : goal.receive_init-requires-clause-short
@@ -34,7 +34,7 @@ receive_init-requires-clause-short g c =
 pub returns-in-KexdhInit-clause-works : goal.returns-in-KexdhInit-clause-works
 returns-in-KexdhInit-clause-works g c =
     let setup = setup_of (g.S.Suite.meaning c.args.suite.now) (g.D.Decisions.policy c.args.decisions.now) c.args.config.now in
-    let has = has_place c.messages_law.ensures.complete c.numbers_law.ensures.kind c.numbers_law.ensures.alike (role_of c.args.config.now) (state_data c.args.self.now) c.args.payload.now (message_data c.args.message.now) c.requires.reads c.requires.spelled in
+    let has = has_place c.messages_law.ensures.complete c.numbers_law.ensures.message_number c.numbers_law.ensures.alike (role_of c.args.config.now) (state_data c.args.self.now) c.args.payload.now (message_data c.args.message.now) c.requires.reads c.requires.spelled in
     let is : message_data c.args.message.now ≡ content.KexdhInit c.in-KexdhInit.e = ap message_data c.in-KexdhInit.is in
     on_ok_weaker c.receive_init.result (λ given form.
     works.init_works setup _ _ _ _ _ _ has (ap number_of is) (works.kexdh_init setup _ _ c.in-KexdhInit.e is)
@@ -42,12 +42,12 @@ returns-in-KexdhInit-clause-works g c =
 
 pub receive_init-requires-in-KexEcdhInit-clause-at : goal.receive_init-requires-in-KexEcdhInit-clause-at
 receive_init-requires-in-KexEcdhInit-clause-at g c =
-    let has = has_place c.messages_law.ensures.complete c.numbers_law.ensures.kind c.numbers_law.ensures.alike (role_of c.args.config.now) (state_data c.args.self.now) c.args.payload.now (message_data c.args.message.now) c.requires.reads c.requires.spelled in
+    let has = has_place c.messages_law.ensures.complete c.numbers_law.ensures.message_number c.numbers_law.ensures.alike (role_of c.args.config.now) (state_data c.args.self.now) c.args.payload.now (message_data c.args.message.now) c.requires.reads c.requires.spelled in
     (works.at_init _ _ _ _ has (ap (λ x. number_of (message_data x)) c.in-KexEcdhInit.is)).phase_is
 
 pub receive_init-requires-in-KexEcdhInit-clause-server : goal.receive_init-requires-in-KexEcdhInit-clause-server
 receive_init-requires-in-KexEcdhInit-clause-server g c =
-    let has = has_place c.messages_law.ensures.complete c.numbers_law.ensures.kind c.numbers_law.ensures.alike (role_of c.args.config.now) (state_data c.args.self.now) c.args.payload.now (message_data c.args.message.now) c.requires.reads c.requires.spelled in
+    let has = has_place c.messages_law.ensures.complete c.numbers_law.ensures.message_number c.numbers_law.ensures.alike (role_of c.args.config.now) (state_data c.args.self.now) c.args.payload.now (message_data c.args.message.now) c.requires.reads c.requires.spelled in
     (works.at_init _ _ _ _ has (ap (λ x. number_of (message_data x)) c.in-KexEcdhInit.is)).side_is
 
 pub receive_init-requires-in-KexEcdhInit-clause-short : goal.receive_init-requires-in-KexEcdhInit-clause-short
@@ -59,12 +59,12 @@ receive_init-requires-in-KexEcdhInit-clause-short g c =
 
 pub receive_reply-requires-clause-at : goal.receive_reply-requires-clause-at
 receive_reply-requires-clause-at g c =
-    let has = has_place c.messages_law.ensures.complete c.numbers_law.ensures.kind c.numbers_law.ensures.alike (role_of c.args.config.now) (state_data c.args.self.now) c.args.payload.now (message_data c.args.message.now) c.requires.reads c.requires.spelled in
+    let has = has_place c.messages_law.ensures.complete c.numbers_law.ensures.message_number c.numbers_law.ensures.alike (role_of c.args.config.now) (state_data c.args.self.now) c.args.payload.now (message_data c.args.message.now) c.requires.reads c.requires.spelled in
     (works.at_reply _ _ _ _ has (ap (λ x. number_of (message_data x)) c.in-KexdhReply.is)).phase_is
 
 pub receive_reply-requires-clause-client : goal.receive_reply-requires-clause-client
 receive_reply-requires-clause-client g c =
-    let has = has_place c.messages_law.ensures.complete c.numbers_law.ensures.kind c.numbers_law.ensures.alike (role_of c.args.config.now) (state_data c.args.self.now) c.args.payload.now (message_data c.args.message.now) c.requires.reads c.requires.spelled in
+    let has = has_place c.messages_law.ensures.complete c.numbers_law.ensures.message_number c.numbers_law.ensures.alike (role_of c.args.config.now) (state_data c.args.self.now) c.args.payload.now (message_data c.args.message.now) c.requires.reads c.requires.spelled in
     (works.at_reply _ _ _ _ has (ap (λ x. number_of (message_data x)) c.in-KexdhReply.is)).side_is
 
 pub receive_reply-requires-clause-host_key : goal.receive_reply-requires-clause-host_key
@@ -91,12 +91,12 @@ receive_reply-requires-clause-signature g c =
 
 pub receive_reply-requires-in-KexEcdhReply-clause-at : goal.receive_reply-requires-in-KexEcdhReply-clause-at
 receive_reply-requires-in-KexEcdhReply-clause-at g c =
-    let has = has_place c.messages_law.ensures.complete c.numbers_law.ensures.kind c.numbers_law.ensures.alike (role_of c.args.config.now) (state_data c.args.self.now) c.args.payload.now (message_data c.args.message.now) c.requires.reads c.requires.spelled in
+    let has = has_place c.messages_law.ensures.complete c.numbers_law.ensures.message_number c.numbers_law.ensures.alike (role_of c.args.config.now) (state_data c.args.self.now) c.args.payload.now (message_data c.args.message.now) c.requires.reads c.requires.spelled in
     (works.at_reply _ _ _ _ has (ap (λ x. number_of (message_data x)) c.in-KexEcdhReply.is)).phase_is
 
 pub receive_reply-requires-in-KexEcdhReply-clause-client : goal.receive_reply-requires-in-KexEcdhReply-clause-client
 receive_reply-requires-in-KexEcdhReply-clause-client g c =
-    let has = has_place c.messages_law.ensures.complete c.numbers_law.ensures.kind c.numbers_law.ensures.alike (role_of c.args.config.now) (state_data c.args.self.now) c.args.payload.now (message_data c.args.message.now) c.requires.reads c.requires.spelled in
+    let has = has_place c.messages_law.ensures.complete c.numbers_law.ensures.message_number c.numbers_law.ensures.alike (role_of c.args.config.now) (state_data c.args.self.now) c.args.payload.now (message_data c.args.message.now) c.requires.reads c.requires.spelled in
     (works.at_reply _ _ _ _ has (ap (λ x. number_of (message_data x)) c.in-KexEcdhReply.is)).side_is
 
 pub receive_reply-requires-in-KexEcdhReply-clause-host_key : goal.receive_reply-requires-in-KexEcdhReply-clause-host_key
@@ -123,7 +123,7 @@ receive_reply-requires-in-KexEcdhReply-clause-signature g c =
 pub returns-in-KexEcdhInit-clause-works : goal.returns-in-KexEcdhInit-clause-works
 returns-in-KexEcdhInit-clause-works g c =
     let setup = setup_of (g.S.Suite.meaning c.args.suite.now) (g.D.Decisions.policy c.args.decisions.now) c.args.config.now in
-    let has = has_place c.messages_law.ensures.complete c.numbers_law.ensures.kind c.numbers_law.ensures.alike (role_of c.args.config.now) (state_data c.args.self.now) c.args.payload.now (message_data c.args.message.now) c.requires.reads c.requires.spelled in
+    let has = has_place c.messages_law.ensures.complete c.numbers_law.ensures.message_number c.numbers_law.ensures.alike (role_of c.args.config.now) (state_data c.args.self.now) c.args.payload.now (message_data c.args.message.now) c.requires.reads c.requires.spelled in
     let is : message_data c.args.message.now ≡ content.KexEcdhInit c.in-KexEcdhInit.client_share.now = ap message_data c.in-KexEcdhInit.is in
     on_ok_weaker c.receive_init-in-KexEcdhInit.result (λ given form.
     works.init_works setup _ _ _ _ _ _ has (ap number_of is) (works.kex_ecdh_init setup _ _ c.in-KexEcdhInit.client_share.now is)
@@ -132,7 +132,7 @@ returns-in-KexEcdhInit-clause-works g c =
 pub returns-in-KexdhReply-clause-works : goal.returns-in-KexdhReply-clause-works
 returns-in-KexdhReply-clause-works g c =
     let setup = setup_of (g.S.Suite.meaning c.args.suite.now) (g.D.Decisions.policy c.args.decisions.now) c.args.config.now in
-    let has = has_place c.messages_law.ensures.complete c.numbers_law.ensures.kind c.numbers_law.ensures.alike (role_of c.args.config.now) (state_data c.args.self.now) c.args.payload.now (message_data c.args.message.now) c.requires.reads c.requires.spelled in
+    let has = has_place c.messages_law.ensures.complete c.numbers_law.ensures.message_number c.numbers_law.ensures.alike (role_of c.args.config.now) (state_data c.args.self.now) c.args.payload.now (message_data c.args.message.now) c.requires.reads c.requires.spelled in
     let is : message_data c.args.message.now ≡ content.KexdhReply c.in-KexdhReply.host_key.now c.in-KexdhReply.f c.in-KexdhReply.signature.now = ap message_data c.in-KexdhReply.is in
     on_ok_weaker c.receive_reply.result (λ given form.
     works.reply_works setup _ _ _ _ _ _ has c.in-KexdhReply.signature.now (ap number_of is)
@@ -142,7 +142,7 @@ returns-in-KexdhReply-clause-works g c =
 pub returns-in-KexEcdhReply-clause-works : goal.returns-in-KexEcdhReply-clause-works
 returns-in-KexEcdhReply-clause-works g c =
     let setup = setup_of (g.S.Suite.meaning c.args.suite.now) (g.D.Decisions.policy c.args.decisions.now) c.args.config.now in
-    let has = has_place c.messages_law.ensures.complete c.numbers_law.ensures.kind c.numbers_law.ensures.alike (role_of c.args.config.now) (state_data c.args.self.now) c.args.payload.now (message_data c.args.message.now) c.requires.reads c.requires.spelled in
+    let has = has_place c.messages_law.ensures.complete c.numbers_law.ensures.message_number c.numbers_law.ensures.alike (role_of c.args.config.now) (state_data c.args.self.now) c.args.payload.now (message_data c.args.message.now) c.requires.reads c.requires.spelled in
     let is : message_data c.args.message.now ≡ content.KexEcdhReply c.in-KexEcdhReply.host_key.now c.in-KexEcdhReply.server_share.now c.in-KexEcdhReply.signature.now = ap message_data c.in-KexEcdhReply.is in
     on_ok_weaker c.receive_reply-in-KexEcdhReply.result (λ given form.
     works.reply_works setup _ _ _ _ _ _ has c.in-KexEcdhReply.signature.now (ap number_of is)

@@ -2,7 +2,7 @@ use Rattle.std.proofs.Common.{◌≡◌, ◌∙◌}
 use Rattle.std.proofs.lemmas.Result.{err_from_is_err_and}
 use Rattle.sshcore.specs.ConfigView.{client_data, server_data}
 use Rattle.sshlab.specs.TextLines.{lines}
-use Rattle.sshlab.proofs.OwnedLemmas.{there, told}
+use Rattle.sshwire.proofs.OwnedLemmas.{there, told}
 use Rattle.sshlab.proofs.ScenarioCauseLemmas.{either_cause}
 use Rattle.sshlab.proofs.scenario.Scenario.parse.Goals as goal
 

@@ -7,12 +7,12 @@ use Rattle.sshworld.specs.Headline.{Headline}
 use Rattle.sshworld.specs.Outcome.{outcome}
 use Rattle.sshworld.specs.Wordings.{wording_of}
 use Rattle.sshworld.specs.Worlds.{Complete}
-use Rattle.sshsuites.specs.Lab.{lab}
-use Rattle.sshsuites.specs.LabLaws.{lab_agreeing}
-use Rattle.sshsuites.specs.LabDecisionsData.{lab_policy}
+use Rattle.sshlabsuites.specs.Lab.{lab}
+use Rattle.sshlabsuites.specs.LabLaws.{lab_agreeing}
+use Rattle.sshlabsuites.specs.LabDecisionsData.{lab_policy}
 use Rattle.sshlab.specs.declared.scenario_line.Step.{Step}
 use Rattle.sshlab.specs.Steps.{EndsSettling, StepsDone, StepsLeadTo}
-use Rattle.sshlab.proofs.OwnedLemmas.{once_ok, where_all, where_ok}
+use Rattle.sshwire.proofs.OwnedLemmas.{once_ok, where_all, where_ok}
 use Rattle.sshlab.proofs.RunLemmas.{both_predicted, course_of, headline_of, new_had, settled_of}
 use Rattle.sshlab.proofs.scenario.Scenario.run.Goals as goal
 
@@ -67,7 +67,7 @@ returns-clause-course c =
     (where_all done.result done.ensures.setup done.ensures.still done.ensures.holds (λ setup still holds.
     course_of lab lab_policy self.client self.server self.decisions done.new.world
     (setup.same_client_config ∙ before.client_config) (setup.same_server_config ∙ before.server_config) (setup.same_decisions ∙ before.decisions)
-    (c.follows_law.ensures.understood lab (lab_policy self.decisions) self.client self.server lab_agreeing c.parts.ensures.accepted c.parts-2.ensures.accepted)
+    (c.follows_law.ensures.compatible lab (lab_policy self.decisions) self.client self.server lab_agreeing c.parts.ensures.accepted c.parts-2.ensures.accepted)
     (still (new_had _ lab_policy c.in_ok-world.world before.start)) (holds before.holds).course))
 
 pub returns-clause-headline : goal.returns-clause-headline
@@ -80,7 +80,7 @@ returns-clause-headline c =
     (where_all done.result done.ensures.setup done.ensures.still done.ensures.holds (λ setup still holds.
     headline_of lab lab_policy self.client self.server self.decisions done.new.world
     (setup.same_client_config ∙ before.client_config) (setup.same_server_config ∙ before.server_config) (setup.same_decisions ∙ before.decisions)
-    (c.follows_law.ensures.understood lab (lab_policy self.decisions) self.client self.server lab_agreeing c.parts.ensures.accepted c.parts-2.ensures.accepted)
+    (c.follows_law.ensures.compatible lab (lab_policy self.decisions) self.client self.server lab_agreeing c.parts.ensures.accepted c.parts-2.ensures.accepted)
     (still (new_had _ lab_policy c.in_ok-world.world before.start)) (holds before.holds).headline))
 
 pub returns-clause-predicted : goal.returns-clause-predicted
@@ -100,5 +100,5 @@ returns-clause-settled c =
     tt done.result done.new.world c.once.ensures.value c.once.ensures.done
     (where_ok done.result done.ensures.settled (λ settled.
     settled_of lab lab_policy self.client self.server self.decisions c.in_ok-world.world before.client_config before.server_config before.decisions self.steps.items c.deref.result.now done.new.world c.deref.ensures.value
-    (c.follows_law.ensures.understood lab (lab_policy self.decisions) self.client self.server lab_agreeing c.parts.ensures.accepted c.parts-2.ensures.accepted)
+    (c.follows_law.ensures.compatible lab (lab_policy self.decisions) self.client self.server lab_agreeing c.parts.ensures.accepted c.parts-2.ensures.accepted)
     (new_had _ lab_policy c.in_ok-world.world before.start) settled))

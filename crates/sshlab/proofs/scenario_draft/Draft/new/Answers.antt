@@ -1,7 +1,7 @@
 use Rattle.std.proofs.Common.{◌≡◌, ◌∙◌, map, ap}
 use Rattle.sshcore.specs.ConfigView.{client_data, host_key_data, server_data}
-use Rattle.sshsuites.specs.LabParties.{lab_server}
-use Rattle.sshlab.proofs.OwnedLemmas.{there}
+use Rattle.sshlabsuites.specs.LabConfigs.{lab_server}
+use Rattle.sshwire.proofs.OwnedLemmas.{there}
 use Rattle.sshlab.proofs.ScenarioDraftLemmas.{none_read}
 use Rattle.sshlab.proofs.scenario_draft.Draft.new.Goals as goal
 

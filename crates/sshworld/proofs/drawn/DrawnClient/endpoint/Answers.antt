@@ -1,6 +1,6 @@
 use Rattle.std.proofs.Common.{◌≡◌, ◌∙◌, ap, subst}
 use Rattle.sshneg.specs.declared.side.Side.TheVariants as role
-use Rattle.sshcore.specs.declared.draws.Draws.{Draws}
+use Rattle.sshcore.specs.declared.config_draws.Draws.{Draws}
 use Rattle.sshcore.specs.ConfigParts.{ClientData}
 use Rattle.sshcore.specs.Endpoints.{EndpointMade}
 use Rattle.sshcore.specs.EndpointParts.{config_of_client}

@@ -1,5 +1,5 @@
 use Rattle.std.proofs.Common.{subst}
-use Rattle.sshworld.specs.WorldCourse.{AreUnderstoodIn, ReceivesAll, WorldHolds}
+use Rattle.sshworld.specs.WorldCourse.{AreCompatibleIn, ReceivesAll, WorldHolds}
 use Rattle.sshworld.specs.WorldRounds.{Settles}
 use Rattle.sshworld.proofs.WorldCourseLemmas.{holds_in, settles_in, understands_in}
 use Rattle.sshworld.proofs.world.World.holds.Goals as goal
@@ -13,7 +13,7 @@ returns-clause-holds g c =
 pub returns-clause-understands : goal.returns-clause-understands
 returns-clause-understands g c =
     let i = c.self.inside in
-    subst (λ w. AreUnderstoodIn g.S.Suite.meaning g.D.Decisions.policy w → ReceivesAll g.S.Suite.meaning g.D.Decisions.policy w) c.self.view_is
+    subst (λ w. AreCompatibleIn g.S.Suite.meaning g.D.Decisions.policy w → ReceivesAll g.S.Suite.meaning g.D.Decisions.policy w) c.self.view_is
     (understands_in g.S.Suite.meaning g.D.Decisions.policy i.client_config i.server_config i.suite.now i.decisions.now c.below_law.ensures.laws c.course_receiving_law.ensures.receive (g.met.S.Suite.lawful i.suite.now) i.client i.server c.self.invariant)
 
 pub returns-clause-settles : goal.returns-clause-settles

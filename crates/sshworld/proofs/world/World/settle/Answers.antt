@@ -20,7 +20,7 @@ returns-in_err-round-clause-stopped g c = at_err c.from_residual.result
     (rounds_into g.S.Suite.meaning g.D.Decisions.policy c.args.rounds c.loop.counter c.args.self.now c.loop.self c.round.new.self c.loop-test.true c.loop.invariant.rounds c.in_err-round.ensures.stopped)
 
 pub returns-clause-bound : goal.returns-clause-bound
-returns-clause-bound g c = λ understood had few.
+returns-clause-bound g c = λ compatible had few.
     let i = c.loop.invariant in
     let enough : most_requests c.args.self.now.client_config.plan + 4 ≤ c.loop.counter = omega (arith, c.loop-test.false, few) in
-    bound g.S.Suite.meaning g.D.Decisions.policy c.args.self.now c.loop.self c.loop.counter i.setup i.still i.received c.holds.ensures.understands c.holds.ensures.settles understood had enough
+    bound g.S.Suite.meaning g.D.Decisions.policy c.args.self.now c.loop.self c.loop.counter i.setup i.still i.received c.holds.ensures.understands c.holds.ensures.settles compatible had enough

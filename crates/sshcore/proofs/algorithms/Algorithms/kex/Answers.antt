@@ -1,5 +1,0 @@
-use Rattle.sshneg.specs.declared.choice.NoCommon.TheVariants as field
-use Rattle.sshcore.proofs.algorithms.Algorithms.kex.Goals as goal
-
-pub returns-clause-name : goal.returns-clause-name
-returns-clause-name c = rw (← c.self.view_is) (c.self.invariant field.Kex)

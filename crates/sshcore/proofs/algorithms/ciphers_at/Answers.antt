@@ -1,8 +1,0 @@
-use Rattle.sshneg.specs.declared.choice.NoCommon.TheVariants as field
-use Rattle.sshcore.proofs.algorithms.ciphers_at.Goals as goal
-
-pub name_at-requires : goal.name_at-requires
-name_at-requires c = c.requires field.EncryptionClientToServer
-
-pub name_at-requires-2 : goal.name_at-requires-2
-name_at-requires-2 c = c.requires field.EncryptionServerToClient

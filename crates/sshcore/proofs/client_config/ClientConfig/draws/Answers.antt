@@ -1,5 +1,0 @@
-use Rattle.sshcore.specs.declared.config_fault.ConfigFault.TheVariants as fault
-use Rattle.sshcore.proofs.client_config.ClientConfig.draws.Goals as goal
-
-pub draws_of-requires : goal.draws_of-requires
-draws_of-requires c = c.self.invariant.1.keeps fault.Random

@@ -1,0 +1,5 @@
+use Rattle.sshcore.specs.declared.config_fault.ConfigFault.TheVariants as fault
+use Rattle.sshcore.proofs.config_client.ClientConfig.draws.Goals as goal
+
+pub draws_of-requires : goal.draws_of-requires
+draws_of-requires c = c.self.invariant.1.keeps fault.Random

@@ -1,0 +1,234 @@
+//! Phase exchange: the peer's share (RFC 4253 section 8, RFC 5656 section 4).
+
+ghost use Rattle.std.specs.Prelude.{◌≡◌, ◌≤◌, ◌<◌, IfOk, List, Ok, OnOk, Some, is_some, length, option_map, true, ℕ, Bool};
+ghost use Rattle.sshpacket.specs.declared.limits.TheConstants.{DIGEST_LIMIT, PACKET_LIMIT, SHARE_LIMIT};
+ghost use Rattle.sshpacket.specs.KeysData.{KeysData};
+ghost use Rattle.sshpacket.specs.Suite.{FitsShare, ResponseData, response_data};
+ghost use Rattle.sshneg.specs.declared.side.Side.TheVariants.{Server};
+ghost use Rattle.sshcore.specs.declared.end.Fault.TheVariants as fault;
+ghost use Rattle.sshcore.specs.declared.phase_table.Phase.TheVariants as phase;
+ghost use Rattle.sshcore.specs.Brings.{Gives};
+ghost use Rattle.sshcore.specs.EndpointConfig.{config_data, role_of};
+ghost use Rattle.sshcore.specs.EndData.{Failed, Open, by_input, end_data, goes};
+ghost use Rattle.sshcore.specs.Exchange.{share_read};
+ghost use Rattle.sshcore.specs.Exchanged.{AnswersInit, HasForm, ReceivesExchange, Signs};
+ghost use Rattle.sshcore.specs.StateData.{state_data, with_exchange};
+ghost use Rattle.sshcore.specs.History.{FitsPacket};
+ghost use Rattle.sshcore.specs.Work.{init_reply, told_by};
+
+use crate::config::Config;
+use crate::decisions::Decisions;
+use crate::end::Fault;
+use crate::payloads::{extensions_payload, reply_payload};
+use crate::phase_table::Phase;
+use crate::signing::{SigningKey, signature_by};
+use crate::state::State;
+use sshneg::Exchange;
+use sshpacket::{Keys, Response, Suite};
+use sshwire::Memory;
+
+/// A server's answer as a client has received it.
+#[derive(Drop)]
+pub(crate) struct KexReply<'a> {
+    pub(crate) host_key: &'a [u8],
+    pub(crate) share: &'a [u8],
+    pub(crate) signature: &'a [u8],
+}
+
+/// What the two sides have given and come to, besides version lines and KEXINITs.
+#[derive(Drop)]
+pub(crate) struct Shares<'a> {
+    pub(crate) host_key: &'a [u8],
+    pub(crate) client_share: &'a [u8],
+    pub(crate) server_share: &'a [u8],
+    pub(crate) shared: &'a [u8],
+}
+
+/// A server's answer, the exchange hash that it signs, and its host key.
+#[derive(Drop)]
+pub(crate) struct Signed {
+    hash: Vec<u8>,
+    host_key: Vec<u8>,
+    reply: Vec<u8>,
+}
+
+/// The keys of both directions.
+#[derive(Drop)]
+pub(crate) struct BothKeys {
+    pub(crate) incoming: Keys,
+    pub(crate) outgoing: Keys,
+}
+
+impl State<'_> {
+    ghost use Rattle.sshmsg.specs.MessageData.{MessageData};
+
+    /// A server receives the client's share: it answers with its own and the signature of the exchange
+    /// hash, then with NEWKEYS. Fails as `Exchange` where the suite gives no shared secret.
+    pub(crate) fn receive_init<S: Suite, D: Decisions>(
+        &mut self,
+        config: &Config<'_>,
+        suite: &S,
+        decisions: &D,
+        share: &[u8],
+        sent: &mut Vec<u8>,
+    ) -> Result<(), Memory>
+        requires open { end_data self.old.end ≡ Open }
+        requires at { self.old.phase ≡ phase.Exchange }
+        requires server { role_of config.now ≡ Server }
+        requires short { length share.now ≤ PACKET_LIMIT }
+        ensures receives { OnOk result ((message : MessageData) → share_read (Ok message) ≡ share.now → HasForm (S.meaning suite.now) (state_data self.old)
+            → ReceivesExchange (S.meaning suite.now) Server (config_data config.now) (state_data self.old) (state_data self.new) sent.old.items sent.new.items message
+            (init_reply (S.meaning suite.now) (D.policy decisions.now) Server (config_data config.now) (state_data self.old).known message)) }
+        ensures kept { OnOk result (by_input (end_data self.new.end) ≡ true) }
+    {
+        match self.respond(config, suite, share)? {
+            None => self.fail(config, suite, Fault::Exchange, sent),
+            Some(response) => {
+                answer_law(config, suite);
+                match self.sign(config, suite, decisions, share, &response)? {
+                    None => self.fail(config, suite, Fault::Exchange, sent),
+                    Some(signed) => self.answer_init(config, suite, &response.shared, signed, sent),
+                }
+            }
+        }
+    }
+
+    /// The server's share and the shared secret.
+    pub(crate) fn respond<S: Suite>(
+        &self,
+        config: &Config<'_>,
+        suite: &S,
+        share: &[u8],
+    ) -> Result<Option<Response>, Memory>
+        requires chosen { is_some self.now.algorithms ≡ true }
+        requires short { length share.now ≤ PACKET_LIMIT }
+        ensures { IfOk result (λ o. option_map (λ r. response_data r) o
+            ≡ (S.meaning suite.now).respond (state_data self.now).known.algorithms.kex (config_data config.now).random share.now) }
+    {
+        let algorithms = self.algorithms.as_ref().unwrap();
+        let random = config.exchange_random();
+        suite.respond(self.alloc, algorithms.kex(), random, share)
+    }
+
+    /// The exchange hash, and the message that has its signature, where one is made.
+    fn sign<S: Suite, D: Decisions>(
+        &self,
+        config: &Config<'_>,
+        suite: &S,
+        decisions: &D,
+        share: &[u8],
+        response: &Response,
+    ) -> Result<Option<Signed>, Memory>
+        requires chosen { is_some self.now.algorithms ≡ true }
+        requires short { length share.now ≤ PACKET_LIMIT }
+        requires answer { (S.meaning suite.now).respond (state_data self.now).known.algorithms.kex (config_data config.now).random share.now ≡ Some (response_data response.now) }
+        ensures { IfOk result (λ o. Signs (S.meaning suite.now) (D.policy decisions.now) (role_of config.now) (config_data config.now) (state_data self.now).known share.now (response_data response.now) o) }
+    {
+        answer_law(config, suite);
+        let algorithms = self.algorithms.as_ref().unwrap();
+        let secret = config.secret(algorithms.host_key());
+        let host_key = suite.blob(self.alloc, algorithms.host_key(), secret)?;
+        let shares = Shares {
+            host_key: &host_key,
+            client_share: share,
+            server_share: &response.share,
+            shared: &response.shared,
+        };
+        let hash = self.hash(config, suite, &shares)?;
+        let key = SigningKey {
+            algorithm: algorithms.host_key(),
+            private_key: secret,
+            blob: &host_key,
+        };
+        let Some(signature) = signature_by(self.alloc, suite, decisions, 0, key, &hash)? else {
+            return Ok(None);
+        };
+        let form = suite.share_form(algorithms.kex());
+        let reply = reply_payload(self.alloc, form, &host_key, &response.share, &signature)?;
+        Ok(Some(Signed {
+            hash,
+            host_key,
+            reply,
+        }))
+    }
+
+    /// Sends the answer, NEWKEYS and what a client that asks is told, and stands after the exchange.
+    fn answer_init<S: Suite>(
+        &mut self,
+        config: &Config<'_>,
+        suite: &S,
+        shared: &[u8],
+        signed: Signed,
+        sent: &mut Vec<u8>,
+    ) -> Result<(), Memory>
+        requires open { end_data self.old.end ≡ Open }
+        requires at { self.old.phase ≡ phase.Exchange }
+        requires reply { FitsPacket signed.reply.items }
+        requires hash { length signed.hash.items ≤ DIGEST_LIMIT }
+        requires shared { length shared.now ≤ SHARE_LIMIT }
+        ensures { OnOk result (AnswersInit (S.meaning suite.now) (role_of config.now) (config_data config.now) (state_data self.old) (state_data self.new) signed.host_key.items shared.now signed.hash.items signed.reply.items sent.old.items sent.new.items) }
+    {
+        let keys = self.both_keys(config, suite, shared, &signed.hash)?;
+        self.send(config, suite, &signed.reply, sent)?;
+        self.send_new_keys(config, suite, keys.outgoing, sent)?;
+        self.send_extensions(config, suite, sent)?;
+        self.stand_after_exchange(config, signed.hash, signed.host_key, keys.incoming)
+    }
+
+    /// Tells a client that asks the algorithms of users' keys, if the server has a list of them (RFC 8308 sections
+    /// 2.4 and 3.1).
+    fn send_extensions<S: Suite>(
+        &mut self,
+        config: &Config<'_>,
+        suite: &S,
+        sent: &mut Vec<u8>,
+    ) -> Result<(), Memory>
+        requires open { end_data self.old.end ≡ Open }
+        ensures gives { OnOk result ((strict : Bool) (next : KeysData)
+            → Gives (S.meaning suite.now) (config_data config.now).seed strict next (state_data self.old) (state_data self.new) sent.old.items sent.new.items
+            (goes (told_by (config_data config.now) (state_data self.old).known))) }
+        ensures stays { OnOk result (state_data self.new ≡ record (state_data self.old) { sending = (state_data self.new).sending }) }
+    {
+        let names = config.signature_algorithms();
+        if names.is_empty() || !self.asks {
+            return Ok(());
+        }
+        let payload = extensions_payload(self.alloc, names)?;
+        self.send(config, suite, &payload, sent)
+    }
+
+    /// Goes on to phase newkeys, with the session identifier, the server's public host key and the keys of
+    /// what is received.
+    pub(crate) fn stand_after_exchange(
+        &mut self,
+        config: &Config<'_>,
+        hash: Vec<u8>,
+        host_key: Vec<u8>,
+        incoming: Keys,
+    ) -> Result<(), Memory>
+        requires at { self.old.phase ≡ phase.Exchange }
+        requires short { length hash.items ≤ DIGEST_LIMIT }
+        ensures { OnOk result (state_data self.new ≡ record (state_data self.old) {
+          phase = phase.NewKeys;
+          known = record (state_data self.old).known { session = hash.items };
+          carried = with_exchange (config_data config.now) incoming host_key.items (state_data self.old).carried;
+        }) }
+    {
+        self.own_version = Vec::from_slice(self.alloc, config.version().text())?;
+        self.host_key = host_key;
+        self.session = hash;
+        self.pending = Some(incoming);
+        self.phase = Phase::NewKeys;
+        Ok(())
+    }
+}
+
+/// The law of a server's answer: its share has the method's form, and the shared secret is short.
+pub(crate) fn answer_law<S: Suite>(config: &Config<'_>, suite: &S)
+    ensures share { (kex share : List ℕ) (r : ResponseData) → (S.meaning suite.now).respond kex (config_data config.now).random share ≡ Some r
+        → FitsShare ((S.meaning suite.now).share_form kex) r.share }
+    ensures shared { (kex share : List ℕ) (r : ResponseData) → (S.meaning suite.now).respond kex (config_data config.now).random share ≡ Some r
+        → length r.shared ≤ SHARE_LIMIT }
+{
+    config.exchange_random();
+}

@@ -1,8 +1,0 @@
-use Rattle.sshsuites.proofs.DecisionLaws.{admits, distrusts}
-use Rattle.sshsuites.proofs.lab_decisions.lab_decisions_law.Goals as goal
-
-pub returns-clause-host_key : goal.returns-clause-host_key
-returns-clause-host_key c = distrusts
-
-pub returns-clause-user : goal.returns-clause-user
-returns-clause-user c = admits

@@ -1,6 +1,0 @@
-use Rattle.std.proofs.Common.{◌≡◌, ◌++◌}
-use Rattle.sshsuites.specs.Lab.{stream}
-use Rattle.sshsuites.proofs.lab_suite.stream.Given as goal
-
-abbrev pub invariant-loop-index : goal.invariant-loop-index
-invariant-loop-index l = l.blocks.items ≡ stream (l.front ++ l.back) l.seq l.index
