@@ -16,8 +16,8 @@ use Rattle.sshcore.specs.CompletedMethods.{CompletedMethodsData, completed_after
 use Rattle.sshcore.specs.Tries.{session_known, tried_at}
 
 -- the text of the peer's version line, the payload of its first KEXINIT, the algorithms chosen, the form of shares in 30 and
--- 31, the session identifier, the number of the next request (from 1), what is left of the plan, what is
--- completed of the methods, whether the endpoint is strict, whether no payload stood before, and how many bytes of packets that say
+-- 31, the session identifier, the number of the next request (from 1), what is left of the plan, which methods
+-- are completed, whether the endpoint is strict, whether no payload stood before, and how many bytes of packets that say
 -- nothing may still come, where there is a limit; nothing stands for what isn't known yet
 pub record Known : Type 0 where
   pub version : List ℕ
