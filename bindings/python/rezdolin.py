@@ -178,11 +178,20 @@ class _Secret:
         """The first of them, copied."""
         return bytes(memoryview(self.room)[:count])
 
+    def view(self):
+        """All of them, not copied."""
+        return memoryview(self.room)[:self.len]
+
     def first(self, count):
         """The first of them alone."""
-        kept = _Secret(count)
-        kept.room[:count] = memoryview(self.room)[:count]
-        return kept
+        return _Secret.of(self.view()[:count])
+
+    @staticmethod
+    def of(view):
+        """A copy of these bytes, and no other one: a bytearray that is given a view copies it twice."""
+        made = _Secret(len(view))
+        made.view()[:] = view
+        return made
 
     def __del__(self, wipe=_library.rezdolin_wipe):
         wipe(self.at, self.len)
@@ -205,12 +214,10 @@ class Link:
     """Both directions of a session, and what was agreed: its fields, numbered as include/rezdolin.h has them, but for the states of
     both directions, which it counts in and keeps to itself."""
 
-    def __init__(self, record):
-        self.fields, self._seed = _fields(record), os.urandom(32)
-        self._incoming, self._outgoing = _Secret(len(self.fields[0])), _Secret(len(self.fields[1]))
-        for state, field in zip((self._incoming, self._outgoing), self.fields):
-            state.room[:] = field
-        self.fields[:2] = b'', b''
+    def __init__(self, session):
+        incoming, outgoing, *others = _fields(session.view())
+        self._incoming, self._outgoing, self._seed = _Secret.of(incoming), _Secret.of(outgoing), os.urandom(32)
+        self.fields = [b'', b'', *map(bytes, others)]
         self.session_identifier, self.user, self.service = self.fields[2:5]
         self.own_version, self.peer_version, self.host_key = self.fields[5:8]
         self.is_strict = self.fields[16] == b'\x01'
@@ -325,7 +332,7 @@ class _Endpoint:
         if not self._session:
             raise ValueError('its link was taken')
         session, self._session = self._session, None
-        return Link(session.bytes(session.len))
+        return Link(session)
 
 
 class Client(_Endpoint):

@@ -70,6 +70,18 @@ class Memory(unittest.TestCase):
             with self.assertRaises(ValueError):
                 taken.link()
 
+    def test_wipes(self):
+        sides = pair(Password(b'secret'))
+        meet(*sides)
+        rooms = [side._session.room for side in sides]
+        self.assertTrue(all(map(any, rooms)))
+        links = [side.link() for side in sides]
+        states = [state.room for link in links for state in (link._incoming, link._outgoing)]
+        self.assertEqual((list(map(any, rooms)), list(map(any, states))), ([False] * 2, [True] * 4))
+        self.assertEqual([link.fields[:2] for link in links], [[b'', b'']] * 2)
+        del links
+        self.assertFalse(any(map(any, states)))
+
     def test_asks(self):
         accepted = {Key: public_key(USER), Password: b'secret'}
 

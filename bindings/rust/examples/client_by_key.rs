@@ -6,56 +6,18 @@
 //! second word of its `.pub` file, or the last one of its line in `known_hosts`. The status is 0 if the user is authenticated, else 1;
 //! standard error has the reason.
 
-use rezdolin::{Client, ClientParts, Draws, Proof, Stands, read_identity};
+mod keys;
+
+use keys::{blob_of, draw, key_in};
+use rezdolin::{Client, ClientParts, Draws, Proof, Stands};
 use std::error::Error;
 use std::ffi::OsString;
-use std::fs::File;
 use std::io::{ErrorKind, Read, Write};
 use std::net::TcpStream;
 use std::process::ExitCode;
 use std::time::{Duration, Instant};
 
 const LIMIT: Duration = Duration::from_secs(60);
-const TEXT_ROOM: usize = 65536;
-
-/// Random bytes of the system.
-fn draw<const N: usize>() -> std::io::Result<[u8; N]> {
-    let mut bytes = [0; N];
-    File::open("/dev/urandom")?.read_exact(&mut bytes)?;
-    Ok(bytes)
-}
-
-/// Overwrites a secret. The hint keeps the compiler from leaving that out.
-fn wipe(bytes: &mut [u8]) {
-    bytes.fill(0);
-    std::hint::black_box(bytes);
-}
-
-/// The private key in a file. A [`Proof`] overwrites it when it is dropped.
-fn key_in(path: &str) -> Result<Proof, Box<dyn Error>> {
-    let mut text = Vec::with_capacity(TEXT_ROOM + 1);
-    File::open(path)?.take(TEXT_ROOM as u64).read_to_end(&mut text)?;
-    let read = std::str::from_utf8(&text).map(read_identity);
-    wipe(&mut text);
-    let mut key = read??;
-    let proof = Proof::Key(key.to_vec());
-    wipe(&mut key);
-    Ok(proof)
-}
-
-/// The public key of ssh-ed25519 that these digits of base64 spell.
-fn blob_of(digits: &str) -> Option<Vec<u8>> {
-    const ALL: &[u8] = b"ABCDEFGHIJKLMNOPQRSTUVWXYZabcdefghijklmnopqrstuvwxyz0123456789+/";
-    let mut blob = Vec::new();
-    for four in digits.as_bytes().chunks(4) {
-        let mut bits = 0;
-        for digit in four {
-            bits = bits << 6 | u32::try_from(ALL.iter().position(|it| it == digit)?).ok()?;
-        }
-        blob.extend_from_slice(&bits.to_be_bytes()[1..]);
-    }
-    (digits.len() == 68 && blob.starts_with(b"\0\0\0\x0bssh-ed25519\0\0\0\x20")).then_some(blob)
-}
 
 /// Reads what there is, until the deadline.
 fn receive(stream: &mut TcpStream, piece: &mut [u8], deadline: Instant) -> Result<usize, Box<dyn Error>> {
@@ -102,7 +64,7 @@ fn run() -> Result<String, Box<dyn Error>> {
         return Err("words: HOST:PORT USER IDENTITY HOST-KEY".into());
     };
     let host_key = blob_of(host_key).ok_or("HOST-KEY: it is no public key of ssh-ed25519")?;
-    let key = key_in(identity).map_err(|why| format!("{identity}: {why}"))?;
+    let key = key_in(identity, |key| Proof::Key(key.to_vec())).map_err(|why| format!("{identity}: {why}"))?;
     let mut stream = TcpStream::connect(address).map_err(|why| format!("{address}: {why}"))?;
     stream.set_write_timeout(Some(LIMIT))?;
     let client = carry(&mut stream, user, key, host_key)?;
