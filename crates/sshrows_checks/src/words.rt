@@ -115,10 +115,11 @@ fn has_word(words: &str, did: &str) -> bool {
     words.split('|').any(|word| word == did)
 }
 
-/// Whether the check's own words have nothing against what was done.
+/// Whether the check's own words have nothing against what was done. An endpoint of this project is silent only where a check
+/// names that for it: else one that answers nothing would keep each check that lets a peer be silent.
 fn is_let_be(check: &Check<'_>, did: &str) -> bool {
     match verdict_of(check, did) {
-        Verdict::Keeps => true,
+        Verdict::Keeps => did != "silent",
         Verdict::Unclear => check.asked == Asked::Nothing || did == "not_here",
         _ => false,
     }
