@@ -66,11 +66,25 @@ fn play_by<'a>(
     check: &'a Check<'a>,
     setting: Setting<'a>,
 ) -> Result<Verdict, Stop<'a>> {
-    let side = settings.judged.other();
-    let mut player = Player::new(rt.alloc(), side, check, setting)?;
+    let mut player = player_of(rt, settings, check, setting)?;
     carry(rt, &mut player)?;
     let verdict = tell(rt, settings, check, &player)?;
     Ok(verdict)
+}
+
+/// A player of a check. It is in a box, so that a proof doesn't look into all that it owns at each exit.
+fn player_of<'a>(
+    rt: &HostRuntime,
+    settings: &Settings<'_>,
+    check: &'a Check<'a>,
+    setting: Setting<'a>,
+) -> Result<Box<Player<'a>>, Stop<'a>> {
+    let side = settings.judged.other();
+    let player = Player::new(rt.alloc(), side, check, setting)?;
+    match Box::new(rt.alloc(), player) {
+        Ok(player) => Ok(player),
+        Err(_) => Err(Stop::Fault(Fault::Memory)),
+    }
 }
 
 /// Carries bytes between the peer and a player until the check has ended. What a peer that has gone would be sent is left out, and what

@@ -7,7 +7,7 @@ use sshrows_acts::{Line, Stop, wrong};
 use std::alloc::Global;
 
 /// Plays a check to an endpoint of this role that has sent these bytes, until the check is done or neither side has more to
-/// send. Answers the player then.
+/// send. Answers the player then, in a box, so that a proof doesn't look into all that it owns at each exit.
 pub(crate) fn play<'a>(
     alloc: Global,
     act: &Line<'_>,
@@ -16,9 +16,9 @@ pub(crate) fn play<'a>(
     role: Side,
     peer: Peer<'_>,
     answered: Vec<u8>,
-) -> Result<Player<'a>, Stop> {
+) -> Result<Box<Player<'a>>, Stop> {
     let mut player = match Player::new(alloc, role.other(), check, setting) {
-        Ok(player) => player,
+        Ok(player) => Box::new(alloc, player)?,
         Err(fault) => return unplayed(alloc, act, fault),
     };
     hand_over(alloc, act, &mut player, &answered, false)?;
