@@ -5,19 +5,20 @@ use Rattle.std.specs.Prelude.{◌&&◌, nat_lt, Option, None, Some, drop, take}
 use Rattle.std.specs.Str.{bytes_eq}
 use Rattle.sshsuite.specs.Bits.{number_of_32}
 use Rattle.sshsuite.specs.Ed25519.{hash_of, is_signature, prefix_of, public_key, secret_scalar, signature, verifies}
-use Rattle.sshsuite.specs.Edwards25519.{base_point, decode_point, encode_point, multiply}
+use Rattle.sshsuite.specs.Edwards25519.{decode_point, encode_point, multiply_base}
 use Rattle.sshsuite.specs.Scalar.{encode_scalar, number_in, order}
 use Rattle.sshsuite.specs.declared.edwards25519.Point.{Point}
 use Rattle.sshsuite.proofs.DecodingLemmas.{point_in_is}
-use Rattle.sshsuite.proofs.EdwardsLemmas.{base_is, bytes_are, multiple_is, opposite_is, sum_is}
+use Rattle.sshsuite.proofs.BaseLemmas.{base_multiple_is}
+use Rattle.sshsuite.proofs.EdwardsLemmas.{bytes_are, multiple_is, opposite_is, sum_is}
 use Rattle.sshsuite.proofs.WordLemmas.{AreWords}
 use Rattle.sshsuite.specs.DecodingNumbers.{AreAlike, point_in}
 use Rattle.sshsuite.specs.Ed25519Numbers.{is_right, is_signed, key_of, signed, times_base}
-use Rattle.sshsuite.specs.EdwardsNumbers.{Coordinates, base_numbers}
+use Rattle.sshsuite.specs.EdwardsNumbers.{Coordinates}
 
-times_base_is : (bytes : List ℕ) → encode_point (multiply bytes base_point) ≡ times_base bytes
+times_base_is : (bytes : List ℕ) → encode_point (multiply_base bytes) ≡ times_base bytes
 unfolding times_base
-times_base_is bytes = bytes_are _ _ (multiple_is bytes base_point base_numbers base_is)
+times_base_is bytes = bytes_are _ _ (base_multiple_is bytes)
 
 pub key_is : (private_key : List ℕ) → public_key private_key ≡ key_of private_key
 unfolding public_key key_of
@@ -38,7 +39,7 @@ right_is None (Some a) key input point answer h = absurd h
 right_is (Some p) None key input point answer h = absurd h
 right_is (Some p) (Some a) key input point answer h =
     let k : List ℕ = encode_scalar (number_in (hash_of point key input) % order) in
-    let sum = sum_is _ _ _ _ (multiple_is answer base_point base_numbers base_is) (multiple_is k _ _ (opposite_is p a h)) in
+    let sum = sum_is _ _ _ _ (base_multiple_is answer) (multiple_is k _ _ (opposite_is p a h)) in
     ap (λ (xs : List ℕ). nat_lt (number_of_32 answer) order && bytes_eq xs point) (bytes_are _ _ sum)
 
 pub is_signed_is : (key input signature : List ℕ) → AreWords key → is_signature key input signature ≡ is_signed key input signature

@@ -1,32 +1,24 @@
 -- The code computes with points of numbers.
 
-use Rattle.std.proofs.Common.{◌≡◌, ℕ, zero, suc, ◌-◌, ◌*◌, ◌%◌, inl, inr, Bool, true, false, List, refl, sym, subst, ap, ap₂, ◌∙◌, arith, cond, eqb}
+use Rattle.std.proofs.Common.{◌≡◌, ℕ, zero, suc, ◌+◌, ◌-◌, ◌*◌, ◌%◌, inl, inr, Bool, true, false, List, refl, sym, subst, ap, ap₂, ◌∙◌, arith, cond, eqb}
 use Rattle.std.proofs.lemmas.Bool.{and_parts, cases_Bool, eqb-true}
 use Rattle.std.specs.Prelude.{◌&&◌, slice_index}
 use Rattle.sshsuite.specs.Bits.{bit_at}
-use Rattle.sshsuite.specs.Edwards25519.{add_points, add_summand, base_point, double, double_and_add, encode_point, is_one, multiply, multiply_to, negate, neutral_factors, point_of_factors, summand_of, times_z, twice_d, with_sign}
+use Rattle.sshsuite.specs.Edwards25519.{add_points, add_row_more, add_row_to, add_summand, add_where, double, encode_point, is_one, multiply, multiply_to, negate, neutral_factors, point_of_factors, summand_of, table_point, times_z, twice_d, with_sign}
 use Rattle.sshsuite.specs.FieldElement.{mul, none, one}
 use Rattle.sshsuite.specs.declared.edwards25519.Factors.{Factors}
 use Rattle.sshsuite.specs.declared.edwards25519.Point.{Point}
 use Rattle.sshsuite.specs.declared.edwards25519.Summand.{Summand}
-use Rattle.sshsuite.proofs.FieldNumberLemmas.{HasLoose, HasTight, add_number, difference_half, difference_number, encode_number, exchange, half_loose, inverse_number, loose_number, mul_number, mul_tight, none_number, none_tight, one_number, one_tight, products, square_tight, sub_number, sum_half, sum_number, tight_by, tight_half, tight_loose, tight_number}
-use Rattle.sshsuite.specs.EdwardsNumbers.{Coordinates, HasCoordinates, added, base_numbers, bytes_of_point, doubled, multiple, multiple_to, neutral_numbers, of_factors, opposite, twice_d_number}
+use Rattle.sshsuite.proofs.FieldNumberLemmas.{HasLoose, HasTight, add_number, difference_half, difference_number, encode_number, exchange, half_loose, inverse_number, loose_number, mul_number, mul_tight, none_number, none_tight, one_tight, products, square_tight, sub_number, sum_half, sum_number, tight_by, tight_half, tight_loose, tight_number}
+use Rattle.sshsuite.specs.EdwardsNumbers.{Coordinates, HasCoordinates, added, bytes_of_point, doubled, multiple, multiple_to, neutral_numbers, of_factors, opposite, twice_d_number}
 use Rattle.sshsuite.specs.FieldNumbers.{HasNumber, minus, plus, times}
 use Rattle.sshsuite.specs.FieldValues.{field, value}
 
 twice_d_is : HasNumber twice_d twice_d_number
 twice_d_is = record { below = record { l0 = omega arith; l1 = omega arith; l2 = omega arith; l3 = omega arith; l4 = omega arith }; number = refl }
 
-pub base_is : HasCoordinates base_point base_numbers
-base_is = record {
-  x = record { below = record { l0 = omega arith; l1 = omega arith; l2 = omega arith; l3 = omega arith; l4 = omega arith }; number = refl };
-  y = record { below = record { l0 = omega arith; l1 = omega arith; l2 = omega arith; l3 = omega arith; l4 = omega arith }; number = refl };
-  z = one_number;
-  t = record { below = record { l0 = omega arith; l1 = omega arith; l2 = omega arith; l3 = omega arith; l4 = omega arith }; number = refl };
-}
-
 -- the products of factors, which are loose, are those coordinates
-record AreFactors (s : Factors) (n : Coordinates) : Type 0 where
+pub record AreFactors (s : Factors) (n : Coordinates) : Type 0 where
   pub x : HasTight (mul s.e s.f) n.x
   pub y : HasTight (mul s.g s.h) n.y
   pub z : HasTight (mul s.g s.f) n.z
@@ -38,11 +30,11 @@ unfolding of_factors
 factors_are e f g h i j k l he hf hg hh =
     record { x = mul_tight e f i j he hf; y = mul_tight g h k l hg hh; z = tight_by (mul g f) (times k j) (times j k) (exchange k j) (mul_tight g f k j hg hf); t = mul_tight e h i l he hh }
 
-point_is : (s : Factors) (n : Coordinates) → AreFactors s n → HasCoordinates (point_of_factors s) n
+pub point_is : (s : Factors) (n : Coordinates) → AreFactors s n → HasCoordinates (point_of_factors s) n
 unfolding point_of_factors
 point_is s n h = record { x = tight_number _ _ h.x; y = tight_number _ _ h.y; z = tight_number _ _ h.z; t = tight_number _ _ h.t }
 
-neutral_is : AreFactors neutral_factors neutral_numbers
+pub neutral_is : AreFactors neutral_factors neutral_numbers
 unfolding times
 neutral_is =
     let as_none = tight_loose none 0 none_tight in
@@ -60,7 +52,7 @@ sum_is p q m n h k =
     point_is _ _ (factors_are _ _ _ _ _ _ _ _ (loose_number _ _ (sub_number _ _ _ _ b a)) (loose_number _ _ (sub_number _ _ _ _ d c))
     (loose_number _ _ (add_number _ _ _ _ d c)) (loose_number _ _ (add_number _ _ _ _ b a)))
 
-double_is : (s : Factors) (m : Coordinates) → AreFactors s m → AreFactors (double s) (doubled m)
+pub double_is : (s : Factors) (m : Coordinates) → AreFactors s m → AreFactors (double s) (doubled m)
 unfolding double doubled
 double_is s m h =
     let a = square_tight _ _ (tight_loose _ _ h.x) in
@@ -73,7 +65,7 @@ double_is s m h =
     factors_are _ _ _ _ _ _ _ _ (difference_number _ _ _ _ hh both) (sum_number _ _ _ _ c g) (half_loose _ _ g) (half_loose _ _ hh)
 
 -- what is kept of a point has its numbers
-record IsSummand (q : Summand) (n : Coordinates) : Type 0 where
+pub record IsSummand (q : Summand) (n : Coordinates) : Type 0 where
   pub sum : HasLoose q.plus (plus n.y n.x)
   pub difference : HasLoose q.minus (minus n.y n.x)
   pub z : HasLoose q.z n.z
@@ -99,7 +91,7 @@ one_is a n h e =
     let all : value a ≡ 1 = omega (arith, l0, l1, l2, l3, l4) in
     sym h.number ∙ ap (λ (k : ℕ). k % field) all
 
-summand_is : (p : Point) (m : Coordinates) → HasCoordinates p m → IsSummand (summand_of p) m
+pub summand_is : (p : Point) (m : Coordinates) → HasCoordinates p m → IsSummand (summand_of p) m
 unfolding summand_of
 summand_is p m h = record {
   sum = loose_number _ _ (add_number p.y p.x m.y m.x h.y h.x);
@@ -136,7 +128,7 @@ z_is z q x n h k =
       | inr isnt ↦ subst (λ (b : Bool). HasTight (cond b z (mul z q.z)) (times x n.z)) (sym isnt) (mul_tight _ _ _ _ (tight_loose _ _ h) k.z)
     ]
 
-add_is : (s : Factors) (q : Summand) (m n : Coordinates) → AreFactors s m → IsSummand q n → AreFactors (add_summand s q) (added m n)
+pub add_is : (s : Factors) (q : Summand) (m n : Coordinates) → AreFactors s m → IsSummand q n → AreFactors (add_summand s q) (added m n)
 unfolding add_summand added point_of_factors
 add_is s q m n h k =
     let a = mul_tight _ _ _ _ (half_loose _ _ (difference_half _ _ m.y m.x h.y h.x)) k.difference in
@@ -151,12 +143,18 @@ pub opposite_is : (p : Point) (m : Coordinates) → HasCoordinates p m → HasCo
 unfolding negate opposite
 opposite_is p m h = record { x = sub_number none p.x 0 m.x none_number h.x; y = h.y; z = h.z; t = sub_number none p.t 0 m.t none_number h.t }
 
-either : (b : Bool) (s r : Factors) (m n : Coordinates) → AreFactors s m → AreFactors r n → AreFactors (cond b s r) (cond b m n)
+pub either : (b : Bool) (s r : Factors) (m n : Coordinates) → AreFactors s m → AreFactors r n → AreFactors (cond b s r) (cond b m n)
 either true s r m n h k = h
 either false s r m n h k = k
 
+-- a step of the loop over a row
+pub row_step : (bytes : List ℕ) (j n bit : ℕ) (sum before after : Factors) (q : Summand) → after ≡ add_where before q bit → bit ≡ bit_at bytes (8 * n + j)
+    → before ≡ add_row_to bytes j sum n → q ≡ summand_of (table_point n) → after ≡ add_row_to bytes j sum (n + 1)
+row_step bytes j n bit sum before after q e b s t =
+    e ∙ (ap₂ (λ (s : Factors) (k : ℕ). add_where s q k) s b ∙ (ap (λ (q : Summand). add_where (add_row_to bytes j sum n) q (bit_at bytes (8 * n + j))) t ∙ sym (add_row_more bytes j sum n)))
+
 multiple_to_is : (bytes : List ℕ) (q : Summand) (m : Coordinates) (n : ℕ) → IsSummand q m → AreFactors (multiply_to bytes q n) (multiple_to bytes m n)
-unfolding multiply_to multiple_to double_and_add
+unfolding multiply_to multiple_to add_where
 multiple_to_is bytes q m zero h = neutral_is
 multiple_to_is bytes q m (suc n) h =
     let s : Factors = multiply_to bytes q n in

@@ -9,6 +9,7 @@ pub mod FieldNumberLemmas
 pub mod LadderLemmas
 pub mod X25519Lemmas
 pub mod EdwardsLemmas
+pub mod BaseLemmas
 pub mod DecodingLemmas
 pub mod Ed25519Lemmas
 pub mod PolyLemmas

@@ -5,7 +5,7 @@ use Rattle.std.specs.Str.{bytes_eq}
 use Rattle.sha2.specs.Sha512.{sha512}
 use Rattle.sshsuite.specs.Bits.{number_of_32}
 use Rattle.sshsuite.specs.Curve25519.{clamped}
-use Rattle.sshsuite.specs.Edwards25519.{add_points, base_point, decode_point, encode_point, multiply, negate}
+use Rattle.sshsuite.specs.Edwards25519.{add_points, decode_point, encode_point, multiply, multiply_base, negate}
 use Rattle.sshsuite.specs.Scalar.{encode_scalar, number_in, order}
 use Rattle.sshsuite.specs.declared.edwards25519.Point.{Point}
 
@@ -19,7 +19,7 @@ prefix_of private_key = drop 32 (sha512 private_key)
 
 -- the public key: the bytes of the secret scalar times the base point, computed by limbs (RFC 8032 section 5.1.5)
 unfoldable pub public_key : List ℕ → List ℕ
-public_key private_key = encode_point (multiply (secret_scalar private_key) base_point)
+public_key private_key = encode_point (multiply_base (secret_scalar private_key))
 
 -- SHA-512 of three parts, one after the other (RFC 8032 section 5.1.6)
 unfoldable pub hash_of : List ℕ → List ℕ → List ℕ → List ℕ
@@ -29,7 +29,7 @@ hash_of first second third = sha512 (first ++ second ++ third)
 unfoldable pub signature : List ℕ → List ℕ → List ℕ
 signature private_key input =
     let nonce = number_in (hash_of (prefix_of private_key) input []) % order in
-    let point = encode_point (multiply (encode_scalar nonce) base_point) in
+    let point = encode_point (multiply_base (encode_scalar nonce)) in
     let challenge = number_in (hash_of point (public_key private_key) input) % order in
     point ++ encode_scalar ((number_in (secret_scalar private_key) * challenge + nonce) % order)
 
@@ -38,7 +38,7 @@ unfoldable pub verifies : Option Point → List ℕ → List ℕ → List ℕ �
 verifies None key input point answer = false
 verifies (Some p) key input point answer =
     let challenge = encode_scalar (number_in (hash_of point key input) % order) in
-    nat_lt (number_of_32 answer) order && bytes_eq (encode_point (add_points (multiply answer base_point) (multiply challenge (negate p)))) point
+    nat_lt (number_of_32 answer) order && bytes_eq (encode_point (add_points (multiply_base answer) (multiply challenge (negate p)))) point
 
 -- the signature of the input by this key is valid, computed by limbs (RFC 8032 section 5.1.7)
 unfoldable pub is_signature : List ℕ → List ℕ → List ℕ → Bool

@@ -7,11 +7,11 @@ use Rattle.sshsuite.specs.Bits.{number_of_32}
 use Rattle.sshsuite.specs.Ed25519.{hash_of, prefix_of, secret_scalar, signature}
 use Rattle.sshsuite.specs.Scalar.{encode_scalar, number_in, order}
 use Rattle.sshsuite.specs.DecodingNumbers.{point_in}
-use Rattle.sshsuite.specs.EdwardsNumbers.{Coordinates, added, base_numbers, bytes_of_point, multiple, opposite}
+use Rattle.sshsuite.specs.EdwardsNumbers.{Coordinates, added, base_multiple, bytes_of_point, multiple, opposite}
 
 -- the bytes of the base point, times the number of 32 bytes
 unfoldable pub times_base : List ℕ → List ℕ
-times_base bytes = bytes_of_point (multiple bytes base_numbers)
+times_base bytes = bytes_of_point (base_multiple bytes)
 
 -- the public key (section 5.1.5)
 unfoldable pub key_of : List ℕ → List ℕ
@@ -30,7 +30,7 @@ unfoldable pub is_right : Option Coordinates → List ℕ → List ℕ → List 
 is_right None key input point answer = false
 is_right (Some a) key input point answer =
     let k = encode_scalar (number_in (hash_of point key input) % order) in
-    nat_lt (number_of_32 answer) order && bytes_eq (bytes_of_point (added (multiple answer base_numbers) (multiple k (opposite a)))) point
+    nat_lt (number_of_32 answer) order && bytes_eq (bytes_of_point (added (base_multiple answer) (multiple k (opposite a)))) point
 
 -- The signature is valid: s is below L, and s times the base point less k times the key's point is R (RFC 8032 section 5.1.7, without the
 -- cofactor).

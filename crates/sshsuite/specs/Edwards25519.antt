@@ -1,13 +1,14 @@
 -- Points of edwards25519 in extended coordinates, in the order of the steps of RFC 8032 section 5.1.
 
 use Rattle.std.proofs.Common.{◌≡◌, add-one, refl}
-use Rattle.std.specs.Prelude.{ℕ, zero, suc, ◌+◌, ◌-◌, ◌*◌, ◌/◌, ◌%◌, ◌^◌, ◌==◌, ◌&&◌, nat_lt, Bool, List, [], ◌∷◌, slice_index, slice_set, if◌then◌else◌, Option, None, Some, replicate}
+use Rattle.std.specs.Prelude.{ℕ, zero, suc, ◌+◌, ◌-◌, ◌*◌, ◌/◌, ◌%◌, ◌^◌, ◌<◌, ◌==◌, ◌&&◌, nat_lt, Bool, List, [], ◌∷◌, slice_index, slice_index_or, slice_range, slice_set, if◌then◌else◌, Option, None, Some, replicate}
 use Rattle.std.specs.Str.{bytes_eq}
 use Rattle.sshsuite.specs.Bits.{bit_at, number_of_32}
 use Rattle.sshsuite.specs.FieldElement.{add, decode, encode, inverse, loose_difference, loose_sum, mul, none, one, root_power, squared, sub}
 use Rattle.sshsuite.specs.declared.edwards25519.Factors.{Factors}
 use Rattle.sshsuite.specs.declared.edwards25519.Point.{Point}
 use Rattle.sshsuite.specs.declared.edwards25519.Summand.{Summand}
+use Rattle.sshsuite.specs.declared.edwards25519.TheConstants.{BASE_MULTIPLES}
 
 -- the constant d of the curve, as five limbs (RFC 8032 section 5.1)
 abbrev pub d : List ℕ
@@ -24,15 +25,6 @@ root = 1718705420411056 ∷ 234908883556509 ∷ 2233514472574048 ∷ 21172026270
 -- the neutral element
 abbrev pub neutral_factors : Factors
 neutral_factors = record { e = none; f = one; g = one; h = one }
-
--- the base point
-abbrev pub base_point : Point
-base_point = record {
-  x = 1738742601995546 ∷ 1146398526822698 ∷ 2070867633025821 ∷ 562264141797630 ∷ 587772402128613 ∷ [];
-  y = 1801439850948184 ∷ 1351079888211148 ∷ 450359962737049 ∷ 900719925474099 ∷ 1801439850948198 ∷ [];
-  z = one;
-  t = 1841354044333475 ∷ 16398895984059 ∷ 755974180946558 ∷ 900171276175154 ∷ 1821297809914039 ∷ [];
-}
 
 -- the point of factors of its coordinates
 unfoldable pub point_of_factors : Factors → Point
@@ -88,18 +80,44 @@ double s =
 unfoldable pub negate : Point → Point
 negate p = record { x = sub none p.x; y = p.y; z = p.z; t = sub none p.t }
 
--- twice the first, and the second where the bit is 1
-unfoldable pub double_and_add : Factors → Summand → ℕ → Factors
-double_and_add sum q bit = let twice = double sum in if bit == 1 then add_summand twice q else twice
+-- the first, and the second where the bit is 1
+unfoldable pub add_where : Factors → Summand → ℕ → Factors
+add_where sum q bit = if bit == 1 then add_summand sum q else sum
 
 -- the multiply of the point by the first bits of the number, the highest first
 unfoldable pub multiply_to : List ℕ → Summand → ℕ → Factors
 multiply_to bytes q zero = neutral_factors
-multiply_to bytes q (suc n) = double_and_add (multiply_to bytes q n) q (bit_at bytes (255 - n))
+multiply_to bytes q (suc n) = add_where (double (multiply_to bytes q n)) q (bit_at bytes (255 - n))
 
 -- the point times the number of these bytes, by limbs
 unfoldable pub multiply : List ℕ → Point → Point
 multiply bytes p = point_of_factors (multiply_to bytes (summand_of p) 256)
+
+-- the coordinate on a line of the table of the base point's multiples
+unfoldable pub table_element : ℕ → List ℕ
+table_element line = decode (slice_range BASE_MULTIPLES.now (32 * line) (32 * line + 32))
+
+-- the point of four lines of the table: 256^i times the base point
+unfoldable pub table_point : ℕ → Point
+table_point i = record { x = table_element (4 * i); y = table_element (4 * i + 1); z = table_element (4 * i + 2); t = table_element (4 * i + 3) }
+
+-- the summands are those of the table's points
+abbrev pub AreOfTable : List Summand → Type 0
+AreOfTable summands = (k : ℕ) → k < 32 → (past : Summand) → slice_index_or summands k past ≡ summand_of (table_point k)
+
+-- the sum, to which the table's point of each of the first bytes is added whose bit j is 1
+unfoldable pub add_row_to : List ℕ → ℕ → Factors → ℕ → Factors
+add_row_to bytes j sum zero = sum
+add_row_to bytes j sum (suc n) = add_where (add_row_to bytes j sum n) (summand_of (table_point n)) (bit_at bytes (8 * n + j))
+
+-- the same for the first bits of all bytes, the highest first: before each the sum is doubled
+unfoldable pub add_rows_to : List ℕ → ℕ → Factors
+add_rows_to bytes zero = neutral_factors
+add_rows_to bytes (suc k) = add_row_to bytes (7 - k) (double (add_rows_to bytes k)) 32
+
+-- the base point times the number of these bytes, by limbs
+unfoldable pub multiply_base : List ℕ → Point
+multiply_base bytes = point_of_factors (add_rows_to bytes 8)
 
 -- y, with the lowest bit of x as the highest
 unfoldable pub with_sign : List ℕ → List ℕ → List ℕ
@@ -148,11 +166,28 @@ decode_point bytes =
     if is_canonical bytes then point_from (square_root_of_ratio (sub yy one) (add (mul d yy) one)) y (slice_index bytes 31 / 128)
     else None
 
--- steps of the loop
+-- steps of the loops
 pub multiply_none : (bytes : List ℕ) (q : Summand) → multiply_to bytes q 0 ≡ neutral_factors
 unfolding multiply_to
 multiply_none bytes q = refl
 
-pub multiply_more : (bytes : List ℕ) (q : Summand) (n : ℕ) → multiply_to bytes q (n + 1) ≡ double_and_add (multiply_to bytes q n) q (bit_at bytes (255 - n))
+pub multiply_more : (bytes : List ℕ) (q : Summand) (n : ℕ) → multiply_to bytes q (n + 1) ≡ add_where (double (multiply_to bytes q n)) q (bit_at bytes (255 - n))
 unfolding multiply_to
 multiply_more bytes q n = rw (add-one n) refl
+
+pub add_row_none : (bytes : List ℕ) (j : ℕ) (sum : Factors) → add_row_to bytes j sum 0 ≡ sum
+unfolding add_row_to
+add_row_none bytes j sum = refl
+
+pub add_row_more : (bytes : List ℕ) (j : ℕ) (sum : Factors) (n : ℕ)
+    → add_row_to bytes j sum (n + 1) ≡ add_where (add_row_to bytes j sum n) (summand_of (table_point n)) (bit_at bytes (8 * n + j))
+unfolding add_row_to
+add_row_more bytes j sum n = rw (add-one n) refl
+
+pub add_rows_none : (bytes : List ℕ) → add_rows_to bytes 0 ≡ neutral_factors
+unfolding add_rows_to
+add_rows_none bytes = refl
+
+pub add_rows_more : (bytes : List ℕ) (k : ℕ) → add_rows_to bytes (k + 1) ≡ add_row_to bytes (7 - k) (double (add_rows_to bytes k)) 32
+unfolding add_rows_to
+add_rows_more bytes k = rw (add-one k) refl

@@ -1,6 +1,6 @@
 -- Points of edwards25519 as numbers modulo 2^255 - 19, as RFC 8032 section 5.1 tells of them.
 
-use Rattle.std.proofs.Common.{ℕ, zero, suc, ◌-◌, List}
+use Rattle.std.proofs.Common.{ℕ, zero, suc, ◌+◌, ◌-◌, ◌*◌, List}
 use Rattle.std.specs.Prelude.{◌==◌, if◌then◌else◌}
 use Rattle.sshsuite.specs.Bits.{bit_at}
 use Rattle.sshsuite.specs.Edwards25519.{with_sign}
@@ -76,6 +76,31 @@ multiple_to bytes p (suc n) =
 -- 5.1.4)
 unfoldable pub multiple : List ℕ → Coordinates → Coordinates
 multiple bytes p = multiple_to bytes p 256
+
+-- 256 times a point: it is doubled eight times
+unfoldable pub times_256 : Coordinates → Coordinates
+times_256 p = doubled (doubled (doubled (doubled (doubled (doubled (doubled (doubled p)))))))
+
+-- the base point times 256^i, with the z that doubling gives
+unfoldable pub base_at : ℕ → Coordinates
+base_at zero = base_numbers
+base_at (suc i) = times_256 (base_at i)
+
+-- The sum, to which points are added: for each of the first n bytes whose bit j is 1, the point `base_at` of the byte's place. Bit 0 of a byte
+-- is the lowest.
+unfoldable pub row_to : List ℕ → ℕ → Coordinates → ℕ → Coordinates
+row_to bytes j sum zero = sum
+row_to bytes j sum (suc n) = let before = row_to bytes j sum n in if bit_at bytes (8 * n + j) == 1 then added before (base_at n) else before
+
+-- The sum for the k highest bits of each of 32 bytes, the highest first. Before the points of a bit are added, the sum is doubled.
+unfoldable pub rows_to : List ℕ → ℕ → Coordinates
+rows_to bytes zero = neutral_numbers
+rows_to bytes (suc k) = row_to bytes (7 - k) (doubled (rows_to bytes k)) 32
+
+-- The base point so many times as the number of 32 bytes says, the lowest first. Bit j of byte i counts 2^j times 256^i: the point of the
+-- byte's place is 256^i times the base point, and after it is added for bit j, the sum is doubled j times.
+unfoldable pub base_multiple : List ℕ → Coordinates
+base_multiple bytes = rows_to bytes 8
 
 -- the 32 bytes of a point: y, and the lowest bit of x as the highest (section 5.1.2)
 unfoldable pub bytes_of_point : Coordinates → List ℕ

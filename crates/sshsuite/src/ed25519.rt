@@ -7,7 +7,8 @@ ghost use Rattle.sshsuite.specs.Ed25519.{is_signature, prefix_of, public_key, se
 use crate::bits::{first_half, second_half};
 use crate::curve25519::clamped;
 use crate::edwards25519::{
-    BASE_POINT, Point, add_points, decode_point, encode_point, multiply, multiply_public, negate,
+    Point, add_points, decode_point, encode_point, multiply_base, multiply_base_public,
+    multiply_public, negate,
 };
 use crate::hashes::hash_512;
 use crate::scalar::{encode_scalar, is_reduced, scalar_from, times_plus};
@@ -44,7 +45,7 @@ fn prefix_of(private_key: &[u8]) -> [u8; 32]
 pub(crate) fn public_key(private_key: &[u8]) -> [u8; 32]
     ensures { result ≡ public_key private_key.now }
 {
-    encode_point(multiply(&secret_scalar(private_key), BASE_POINT))
+    encode_point(multiply_base(&secret_scalar(private_key)))
 }
 
 /// The signature of the input, of 64 bytes (RFC 8032 section 5.1.6), by a private key and its public key: by another
@@ -61,7 +62,7 @@ pub(crate) fn signature(
     ensures long { IfOk result (λ v. length v.items ≡ 64) }
 {
     let nonce = scalar_from(&hash_512(&prefix_of(private_key), input, &[]));
-    let point = encode_point(multiply(&encode_scalar(nonce), BASE_POINT));
+    let point = encode_point(multiply_base(&encode_scalar(nonce)));
     let challenge = scalar_from(&hash_512(&point, key, input));
     let answer = encode_scalar(times_plus(&secret_scalar(private_key), challenge, nonce));
     let mut signature = Vec::from_slice(alloc, &point)?;
@@ -93,7 +94,7 @@ fn verifies(p: Point, key: &[u8], input: &[u8], point: &[u8], answer: &[u8]) -> 
 {
     let challenge = encode_scalar(scalar_from(&hash_512(point, key, input)));
     let sum = add_points(
-        multiply_public(answer, BASE_POINT),
+        multiply_base_public(answer),
         multiply_public(&challenge, negate(p)),
     );
     is_reduced(answer) && encode_point(sum).as_slice() == point

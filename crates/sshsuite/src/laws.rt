@@ -14,8 +14,8 @@ ghost use Rattle.sshsuite.specs.Deployed.{deployed, wrapped};
 ghost use Rattle.sshsuite.specs.DeployedNumbers.{share_bytes, shared_body};
 ghost use Rattle.sshsuite.specs.Ed25519.{is_signature, public_key, signature};
 ghost use Rattle.sshsuite.specs.Ed25519Numbers.{is_signed, key_of, signed};
-ghost use Rattle.sshsuite.specs.Edwards25519.{base_point, decode_point, encode_point, multiply};
-ghost use Rattle.sshsuite.specs.EdwardsNumbers.{Coordinates, HasCoordinates, base_numbers, bytes_of_point, multiple};
+ghost use Rattle.sshsuite.specs.Edwards25519.{decode_point, encode_point, multiply, multiply_base, table_point};
+ghost use Rattle.sshsuite.specs.EdwardsNumbers.{Coordinates, HasCoordinates, base_at, base_multiple, bytes_of_point, multiple};
 ghost use Rattle.sshsuite.specs.FieldBytes.{bytes_of_number};
 ghost use Rattle.sshsuite.specs.FieldElement.{add, decode, encode, mul, scaled, squared, sub};
 ghost use Rattle.sshsuite.specs.FieldValues.{AreBelow, field, value};
@@ -58,9 +58,11 @@ pub fn x25519_law()
 {}
 
 /// The law of points: by limbs as in numbers modulo 2^255 - 19 a number times a point is what RFC 8032 section
-/// 5.1.4 tells, and so are its bytes (section 5.1.2) and the point that is read of bytes (section 5.1.3).
+/// 5.1.4 tells, and so are its bytes (section 5.1.2) and the point that is read of bytes (section 5.1.3). The points of the
+/// table are the base point times 256^i (`base`), and a number times the base point is what is summed of them (`base_multiplied`).
 pub fn point_law()
-    ensures base { HasCoordinates base_point base_numbers }
+    ensures base { (i : ℕ) → i < 32 → HasCoordinates (table_point i) (base_at i) }
+    ensures base_multiplied { (bytes : List ℕ) → HasCoordinates (multiply_base bytes) (base_multiple bytes) }
     ensures multiplied { (bytes : List ℕ) (p : Point) (n : Coordinates) → HasCoordinates p n
         → HasCoordinates (multiply bytes p) (multiple bytes n) }
     ensures encoded { (p : Point) (n : Coordinates) → HasCoordinates p n → encode_point p ≡ bytes_of_point n }

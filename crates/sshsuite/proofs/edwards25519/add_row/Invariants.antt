@@ -1,0 +1,6 @@
+use Rattle.std.proofs.Common.{◌≡◌}
+use Rattle.sshsuite.specs.Edwards25519.{add_row_to}
+use Rattle.sshsuite.proofs.edwards25519.add_row.Given as goal
+
+abbrev pub invariant-loop-i : goal.invariant-loop-i
+invariant-loop-i l = l.all ≡ add_row_to l.bytes l.j l.fn.sum l.i
