@@ -7,6 +7,7 @@ use Rattle.std.specs.Int.Bits.{and_zero_l, and_zero_r, xor_zero_l, xor_zero_r}
 use Rattle.std.specs.Prelude.{bit_and, bit_xor}
 use Rattle.sshsuite.specs.Aes.{chosen, doubled, doubled_by, highest_bits, inverse, mapped, others_raised, product, product_to, sub_bytes, turned}
 use Rattle.sshsuite.specs.AesBytes.{block_of, byte_inverse, byte_mapped, byte_product, byte_product_to, byte_turned, s_box, xtime, xtime_by}
+use Rattle.sshsuite.proofs.ListOfEight.{each_of_8}
 
 abbrev pub AreBytes : (ℕ → ℕ) → Type 0
 AreBytes f = (i : ℕ) → f i < 2 ^ 8
@@ -34,20 +35,10 @@ and_of zero f g h k = and_zero_l 0
 and_of (suc n) f g h k =
     and_block 8 (block_of n f) (block_of n g) (f n) (g n) (h n) (k n) ∙ ap (λ (m : ℕ). m * 2 ^ 8 + bit_and (f n) (g n)) (and_of n f g h k)
 
-pub times_2 : (n : ℕ) (f : ℕ → ℕ) → block_of n f * 2 ≡ block_of n (λ i. f i * 2)
+pub times : (c n : ℕ) (f : ℕ → ℕ) → block_of n f * c ≡ block_of n (λ i. f i * c)
 unfolding block_of
-times_2 zero f = refl
-times_2 (suc n) f = let before = times_2 n f in omega (arith, before)
-
-times_27 : (n : ℕ) (f : ℕ → ℕ) → block_of n f * 0x1b ≡ block_of n (λ i. f i * 0x1b)
-unfolding block_of
-times_27 zero f = refl
-times_27 (suc n) f = let before = times_27 n f in omega (arith, before)
-
-pub times_255 : (n : ℕ) (f : ℕ → ℕ) → block_of n f * 0xff ≡ block_of n (λ i. f i * 0xff)
-unfolding block_of
-times_255 zero f = refl
-times_255 (suc n) f = let before = times_255 n f in omega (arith, before)
+times c zero f = omega arith
+times c (suc n) f = let before = times c n f in omega (arith, before)
 
 unfoldable pub limit : ℕ → ℕ
 limit zero = 1
@@ -64,15 +55,10 @@ whole f h = let below : block_of 16 f < 2 ^ 128 = below_limit 16 f h in omega (a
 
 -- the bits with one number
 shifted_by : (k p b : ℕ) → k < 8 → b < 2 ^ 8 → ((p * 2 ^ 8 + b) / 2 ^ k / 2 ^ 8 ≡ p / 2 ^ k) × ((p * 2 ^ 8 + b) / 2 ^ k % 2 ^ 8 % 2 ≡ b / 2 ^ k % 2)
-shifted_by zero p b h low = (omega arith, omega arith)
-shifted_by (suc zero) p b h low = (omega arith, omega arith)
-shifted_by (suc (suc zero)) p b h low = (omega arith, omega arith)
-shifted_by (suc (suc (suc zero))) p b h low = (omega arith, omega arith)
-shifted_by (suc (suc (suc (suc zero)))) p b h low = (omega arith, omega arith)
-shifted_by (suc (suc (suc (suc (suc zero))))) p b h low = (omega arith, omega arith)
-shifted_by (suc (suc (suc (suc (suc (suc zero)))))) p b h low = (omega arith, omega arith)
-shifted_by (suc (suc (suc (suc (suc (suc (suc zero))))))) p b h low = (omega arith, omega arith)
-shifted_by (suc (suc (suc (suc (suc (suc (suc (suc k)))))))) p b h low = absurd (omega arith)
+shifted_by k p b low h =
+    each_of_8 (λ k. ((p * 2 ^ 8 + b) / 2 ^ k / 2 ^ 8 ≡ p / 2 ^ k) × ((p * 2 ^ 8 + b) / 2 ^ k % 2 ^ 8 % 2 ≡ b / 2 ^ k % 2))
+    (omega arith, omega arith) (omega arith, omega arith) (omega arith, omega arith) (omega arith, omega arith)
+    (omega arith, omega arith) (omega arith, omega arith) (omega arith, omega arith) (omega arith, omega arith) k low
 
 cut : (m ones : ℕ) → bit_and m (ones * 2 ^ 8 + 1) ≡ bit_and (m / 2 ^ 8) ones * 2 ^ 8 + m % 2 ^ 8 % 2
 cut m ones =
@@ -118,7 +104,7 @@ raised_is f h =
     ap (λ (x : ℕ). x * 2 % 2 ^ 128)
     (ap (bit_and (block_of 16 f)) (sym sevens_are) ∙ (and_of 16 f (λ i. 0x7f) h (λ i. omega arith)
     ∙ same_block 16 (λ i. bit_and (f i) 0x7f) (λ i. f i % 2 ^ 7) (λ i. and_mask (f i) 7)))
-    ∙ (ap (λ (x : ℕ). x % 2 ^ 128) (times_2 16 (λ i. f i % 2 ^ 7)) ∙ whole (λ i. f i % 2 ^ 7 * 2) (λ i. omega arith))
+    ∙ (ap (λ (x : ℕ). x % 2 ^ 128) (times 2 16 (λ i. f i % 2 ^ 7)) ∙ whole (λ i. f i % 2 ^ 7 * 2) (λ i. omega arith))
 
 pub xtime_is : (b : ℕ) → b < 2 ^ 8 → bit_xor (b % 2 ^ 7 * 2) (b / 2 ^ 7 % 2 * 0x1b) ≡ xtime b
 unfolding xtime
@@ -146,7 +132,7 @@ unfolding doubled
 doubled_is f h =
     ap (λ (x : ℕ). bit_xor x (highest_bits (block_of 16 f) * 0x1b % 2 ^ 128)) (raised_is f h)
     ∙ (ap (λ (x : ℕ). bit_xor (block_of 16 (λ i. f i % 2 ^ 7 * 2)) (x * 0x1b % 2 ^ 128)) (highest_is f h)
-    ∙ (ap (λ (x : ℕ). bit_xor (block_of 16 (λ i. f i % 2 ^ 7 * 2)) (x % 2 ^ 128)) (times_27 16 (λ i. f i / 2 ^ 7 % 2))
+    ∙ (ap (λ (x : ℕ). bit_xor (block_of 16 (λ i. f i % 2 ^ 7 * 2)) (x % 2 ^ 128)) (times 0x1b 16 (λ i. f i / 2 ^ 7 % 2))
     ∙ (ap (bit_xor (block_of 16 (λ i. f i % 2 ^ 7 * 2))) (whole (λ i. f i / 2 ^ 7 % 2 * 0x1b) (λ i. omega arith))
     ∙ (xor_of 16 (λ i. f i % 2 ^ 7 * 2) (λ i. f i / 2 ^ 7 % 2 * 0x1b) (λ i. omega arith) (λ i. omega arith)
     ∙ same_block 16 (λ i. bit_xor (f i % 2 ^ 7 * 2) (f i / 2 ^ 7 % 2 * 0x1b)) (λ i. xtime (f i)) (λ i. xtime_is (f i) (h i))))))
@@ -162,7 +148,7 @@ unfolding chosen
 chosen_is f g k small h l =
     ap (λ (x : ℕ). bit_and (block_of 16 g) (bit_and (block_of 16 f / 2 ^ k) x * 0xff % 2 ^ 128)) (sym ones_are)
     ∙ (ap (λ (x : ℕ). bit_and (block_of 16 g) (x * 0xff % 2 ^ 128)) (bits_of 16 k f small h)
-    ∙ (ap (λ (x : ℕ). bit_and (block_of 16 g) (x % 2 ^ 128)) (times_255 16 (λ i. f i / 2 ^ k % 2))
+    ∙ (ap (λ (x : ℕ). bit_and (block_of 16 g) (x % 2 ^ 128)) (times 0xff 16 (λ i. f i / 2 ^ k % 2))
     ∙ (ap (bit_and (block_of 16 g)) (whole (λ i. f i / 2 ^ k % 2 * 0xff) (λ i. omega arith))
     ∙ (and_of 16 g (λ i. f i / 2 ^ k % 2 * 0xff) l (λ i. omega arith)
     ∙ same_block 16 (λ i. bit_and (g i) (f i / 2 ^ k % 2 * 0xff)) (λ i. cond (eqb (f i / 2 ^ k % 2) 1) (g i) 0)

@@ -14,6 +14,7 @@ pub mod DecodingLemmas
 pub mod Ed25519Lemmas
 pub mod PolyLemmas
 pub mod DeployedLemmas
+pub mod ListOfEight
 pub mod AesLemmas
 pub mod AesStateLemmas
 pub mod AesKeyLemmas

@@ -1,6 +1,6 @@
 -- What is seen by computing: of each byte its image by the circuit.
 
-use Rattle.std.proofs.Common.{◌≡◌, ℕ, ◌*◌, ◌/◌, ◌%◌, ◌^◌, ◌<◌, Bool, true, List, [], ◌∷◌, refl, cond, eqb, ltb}
+use Rattle.std.proofs.Common.{◌≡◌, ℕ, suc, ◌*◌, ◌/◌, ◌%◌, ◌^◌, ◌<◌, Bool, true, List, [], ◌∷◌, refl, ap, ◌∙◌, cond, eqb, ltb}
 use Rattle.std.proofs.lemmas.Bool.{eqb-true, ltb-true}
 use Rattle.std.specs.Prelude.{bit_xor, slice_index}
 use Rattle.sshsuite.specs.AesBytes.{byte_inverse, byte_mapped, byte_product, byte_product_to, byte_turned, s_box, xtime, xtime_by}
@@ -74,19 +74,34 @@ image_at b k h low =
     eqb-true (bit_xor (slice_index (circuit (byte_planes b)) k) (0x63 / 2 ^ k % 2)) (s_box b / 2 ^ k % 2)
     (at_each 8 (bit_fits b) (at_each 256 bits_fit all_bits_fit b h) k low)
 
--- each bit of a byte times x: the one below it, and the highest where 0x1b has one
-doubled_fits : ℕ → ℕ → Bool
-doubled_fits b k = eqb (bit_xor (b * 2 / 2 ^ k % 2) (cond (eqb (0x1b / 2 ^ k % 2) 1) (b / 2 ^ 7 % 2) 0)) (xtime b / 2 ^ k % 2)
+-- each bit of a byte times x: the lowest is the highest before, the others the one below, to which the highest is added where 0x1b has a bit
+first_fits : ℕ → Bool
+first_fits b = eqb (b / 2 ^ 7 % 2) (xtime b / 2 ^ 0 % 2)
 
-doubled_fit : ℕ → Bool
-doubled_fit b = all_below 8 (doubled_fits b)
+all_first_fit : all_below 256 first_fits ≡ true
+unfolding first_fits xtime
+all_first_fit = refl
 
-all_doubled_fit : all_below 256 doubled_fit ≡ true
-unfolding doubled_fit doubled_fits xtime
-all_doubled_fit = refl
+pub xtime_first : (b : ℕ) → b < 256 → b / 2 ^ 7 % 2 ≡ xtime b / 2 ^ 0 % 2
+unfolding first_fits
+xtime_first b h = eqb-true (b / 2 ^ 7 % 2) (xtime b / 2 ^ 0 % 2) (at_each 256 first_fits all_first_fit b h)
 
-pub xtime_at : (b k : ℕ) → b < 256 → k < 8 → bit_xor (b * 2 / 2 ^ k % 2) (cond (eqb (0x1b / 2 ^ k % 2) 1) (b / 2 ^ 7 % 2) 0) ≡ xtime b / 2 ^ k % 2
-unfolding doubled_fit doubled_fits
-xtime_at b k h low =
-    eqb-true (bit_xor (b * 2 / 2 ^ k % 2) (cond (eqb (0x1b / 2 ^ k % 2) 1) (b / 2 ^ 7 % 2) 0)) (xtime b / 2 ^ k % 2)
-    (at_each 8 (doubled_fits b) (at_each 256 doubled_fit all_doubled_fit b h) k low)
+next_bit : ℕ → ℕ → Bool → ℕ
+next_bit b k c = cond c (bit_xor (b / 2 ^ k % 2) (b / 2 ^ 7 % 2)) (b / 2 ^ k % 2)
+
+next_fits : ℕ → ℕ → Bool
+next_fits b k = eqb (next_bit b k (eqb (0x1b / 2 ^ suc k % 2) 1)) (xtime b / 2 ^ suc k % 2)
+
+nexts_fit : ℕ → Bool
+nexts_fit b = all_below 7 (next_fits b)
+
+all_nexts_fit : all_below 256 nexts_fit ≡ true
+unfolding nexts_fit next_fits next_bit xtime
+all_nexts_fit = refl
+
+pub xtime_next : (c : Bool) (b k : ℕ) → c ≡ eqb (0x1b / 2 ^ suc k % 2) 1 → b < 256 → k < 7
+    → cond c (bit_xor (b / 2 ^ k % 2) (b / 2 ^ 7 % 2)) (b / 2 ^ k % 2) ≡ xtime b / 2 ^ suc k % 2
+unfolding nexts_fit next_fits next_bit
+xtime_next c b k e h low =
+    ap (next_bit b k) e
+    ∙ eqb-true (next_bit b k (eqb (0x1b / 2 ^ suc k % 2) 1)) (xtime b / 2 ^ suc k % 2) (at_each 7 (next_fits b) (at_each 256 nexts_fit all_nexts_fit b h) k low)
