@@ -7,8 +7,8 @@ use Rattle.sshsuite.specs.Aes.{cipher, shift_rows, turned_words}
 use Rattle.sshsuite.specs.AesBytes.{block_of, mixed_column, s_box, shifted_row, state_after, with_key, xtime}
 use Rattle.sshsuite.specs.SBox.{circuit}
 use Rattle.sshsuite.specs.SlicedAes.{eight_ciphers, exchanged, gathered, images, joined, key_planes, keyed, mixed_plane, mixed_planes, planes_after, shifted_planes, spread, turned_planes}
-use Rattle.sshsuite.proofs.AesLemmas.{AreBytes, same_block, xor_byte}
-use Rattle.sshsuite.proofs.AesStateLemmas.{cipher_by_state, keyed_bytes, mixed_is, next, shift_rows_is, shifted_bytes, states_bytes, substituted, substituted_bytes, turned_words_is}
+use Rattle.sshsuite.proofs.AesLemmas.{AreBytes, its_block, s_box_block, same_block, xor_byte}
+use Rattle.sshsuite.proofs.AesStateLemmas.{AreKeys, cipher_by_state, keyed_block, mixed_is, next, shifted_block, states_bytes, substituted, turned_words_block}
 use Rattle.sshsuite.proofs.CircuitLemmas.{block, block_xor, by_bits, by_bytes, sum_at, summed}
 use Rattle.sshsuite.proofs.ListOfEight.{at_eight, each_of_8, eight, eight_same}
 use Rattle.sshsuite.proofs.SlicedLemmas.{byte_of, bytes_of, joined_are, of_bytes, plane_is, scaled, whole_block}
@@ -145,7 +145,7 @@ images_are s h =
 -- the rows
 shifted_plane : (f : ℕ → ℕ) → shift_rows (block f) ≡ block (shifted_row f)
 unfolding block shifted_row
-shifted_plane f = shift_rows_is (λ i. f i % 2 ^ 8) (λ i. omega arith)
+shifted_plane f = (shifted_block (its_block (λ i. f i % 2 ^ 8) (λ i. omega arith))).is
 
 shifted_are : (s : ℕ → ℕ → ℕ) → shifted_planes (sliced s) ≡ sliced (λ j. shifted_row (s j))
 unfolding shifted_planes sliced plane shifted_row
@@ -154,7 +154,7 @@ shifted_are s = eight_same (λ k. shift_rows (plane s k)) (plane (λ j. shifted_
 -- the columns
 turned_plane : (f : ℕ → ℕ) → turned_words (block f) ≡ block (λ i. f (next i))
 unfolding block
-turned_plane f = turned_words_is (λ i. f i % 2 ^ 8) (λ i. omega arith)
+turned_plane f = (turned_words_block (its_block (λ i. f i % 2 ^ 8) (λ i. omega arith))).is
 
 turned_are : (s : ℕ → ℕ → ℕ) → turned_planes (sliced s) ≡ sliced (λ j i. s j (next i))
 unfolding turned_planes sliced plane
@@ -263,10 +263,10 @@ rows_are : (s : ℕ → ℕ → ℕ) → AllBytes s → shifted_planes (images (
 rows_are s h = ap shifted_planes (images_are s h) ∙ shifted_are (λ j. substituted (s j))
 
 rows_bytes : (s : ℕ → ℕ → ℕ) → AllBytes s → AllBytes (λ j. shifted_row (substituted (s j)))
-rows_bytes s h j = shifted_bytes (substituted (s j)) (substituted_bytes (s j) (h j))
+rows_bytes s h j = (shifted_block (s_box_block (its_block (s j) (h j)))).bytes
 
 rounds_are : (keys : List ℕ) (by : ℕ → ℕ → ℕ) (s : ℕ → ℕ → ℕ) (n : ℕ) → ((j : ℕ) → AreBytes (by j))
-    → ((j : ℕ) → j < length keys → slice_index keys j ≡ block_of 16 (by j)) → AllBytes s → n < length keys
+    → AreKeys keys by → AllBytes s → n < length keys
     → planes_after keys (blocks s) n ≡ sliced (λ j. state_after by (s j) n)
 unfolding planes_after state_after
 rounds_are keys by s zero k are h low =
@@ -281,7 +281,7 @@ rounds_are keys by s (suc n) k are h low =
     ∙ key_added (λ j. mixed_column (r j)) (by (suc n)) (slice_index keys (suc n)) (k (suc n)) (are (suc n) low))
 
 eight_are : (keys : List ℕ) (by : ℕ → ℕ → ℕ) (s : ℕ → ℕ → ℕ) → 2 ≤ length keys → ((j : ℕ) → AreBytes (by j))
-    → ((j : ℕ) → j < length keys → slice_index keys j ≡ block_of 16 (by j)) → AllBytes s
+    → AreKeys keys by → AllBytes s
     → eight_ciphers keys (blocks s) ≡ eight (λ j. cipher keys (block_of 16 (s j)))
 unfolding eight_ciphers
 eight_are keys by s some k are h =
@@ -294,7 +294,7 @@ eight_are keys by s some k are h =
     ap (λ (p : List ℕ). exchanged (keyed p (key_planes (slice_index keys last))))
     (ap (λ (p : List ℕ). shifted_planes (images p)) (rounds_are keys by s n k are h (omega (arith, some))) ∙ rows_are t ht)
     ∙ (ap exchanged (key_added r (by last) (slice_index keys last) (k last) (are last (omega (arith, some))))
-    ∙ (exchanged_back e (λ j. keyed_bytes (r j) (by last) (rows_bytes t ht j) (k last))
+    ∙ (exchanged_back e (λ j. (keyed_block (its_block (r j) (rows_bytes t ht j)) (its_block (by last) (k last))).bytes)
     ∙ eight_same (λ j. block_of 16 (e j)) (λ j. cipher keys (block_of 16 (s j))) (λ j _. sym (cipher_by_state keys by (s j) some k are (h j)))))
 
 -- eight blocks of 128 bits

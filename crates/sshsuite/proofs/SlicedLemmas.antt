@@ -6,7 +6,7 @@ use Rattle.sshsuite.specs.Aes.{sub_bytes}
 use Rattle.sshsuite.specs.AesBytes.{block_of, s_box}
 use Rattle.sshsuite.specs.SBox.{circuit}
 use Rattle.sshsuite.specs.SlicedAes.{joined, planes}
-use Rattle.sshsuite.proofs.AesLemmas.{AreBytes, bits_of, constants_are, ones_are, s_box_byte, same_block, sub_bytes_is, times, whole}
+use Rattle.sshsuite.proofs.AesLemmas.{AreBytes, its_block, lowest_bits, repeated, s_box_block, s_box_byte, same_block, times_whole}
 use Rattle.sshsuite.proofs.CircuitLemmas.{block, by_bytes, summed}
 use Rattle.sshsuite.proofs.ListOfEight.{each_of_8, eight, eight_same}
 use Rattle.sshsuite.proofs.SlicedSamples.{byte_by_circuit, byte_joined, byte_planes, image_bit}
@@ -26,9 +26,7 @@ of_bytes f h = same_block 16 (λ i. f i % 2 ^ 8) f (λ i. let low = h i in omega
 -- the bits of each byte
 pub plane_is : (k : ℕ) (f : ℕ → ℕ) → k < 8 → AreBytes f → bit_and (block_of 16 f / 2 ^ k) 0x01010101010101010101010101010101 ≡ block (λ i. f i / 2 ^ k % 2)
 unfolding block
-plane_is k f h low =
-    ap (bit_and (block_of 16 f / 2 ^ k)) (sym ones_are)
-    ∙ (bits_of 16 k f h low ∙ same_block 16 (λ i. f i / 2 ^ k % 2) (λ i. f i / 2 ^ k % 2 % 2 ^ 8) (λ i. omega arith))
+plane_is k f h low = lowest_bits k f h low ∙ same_block 16 (λ i. f i / 2 ^ k % 2) (λ i. f i / 2 ^ k % 2 % 2 ^ 8) (λ i. omega arith)
 
 planes_are : (f : ℕ → ℕ) → AreBytes f → planes (block_of 16 f) ≡ eight (λ k. block (λ i. f i / 2 ^ k % 2))
 unfolding planes
@@ -43,7 +41,7 @@ planes_are f h =
 pub scaled : (c : ℕ) (q : ℕ → ℕ) → AreBytes q → AreBytes (λ i. q i * c) → block q * c % 2 ^ 128 ≡ block (λ i. q i * c)
 scaled c q h l =
     ap (λ (x : ℕ). x * c % 2 ^ 128) (of_bytes q h)
-    ∙ (ap (λ (x : ℕ). x % 2 ^ 128) (times c 16 q) ∙ (whole (λ i. q i * c) l ∙ sym (of_bytes (λ i. q i * c) l)))
+    ∙ (times_whole c q l ∙ sym (of_bytes (λ i. q i * c) l))
 
 -- bits put to their places
 raised : (k : ℕ) (q : ℕ → ℕ) → k < 8 → ((i : ℕ) → q i < 2) → block q * 2 ^ k % 2 ^ 128 ≡ block (λ i. q i * 2 ^ k)
@@ -73,7 +71,7 @@ by_block : (f : ℕ → ℕ) → AreBytes f → bit_xor (joined (circuit (planes
 unfolding byte_planes byte_joined joined
 by_block f h =
     let q : ℕ → ℕ → ℕ = λ k i. slice_index (circuit (byte_planes (f i))) k in
-    let constants : 0x63636363636363636363636363636363 ≡ block (λ i. 0x63) = sym constants_are ∙ sym (of_bytes (λ i. 0x63) (λ i. omega arith)) in
+    let constants : 0x63636363636363636363636363636363 ≡ block (λ i. 0x63) = sym (repeated 0x63) ∙ sym (of_bytes (λ i. 0x63) (λ i. omega arith)) in
     let images : joined (circuit (planes (block_of 16 f))) ≡ block (λ i. byte_joined (eight (λ k. q k i)))
     = ap (λ (p : List ℕ). joined (circuit p)) (planes_are f h)
     ∙ (ap joined (eight_same (slice_index (circuit (eight (λ k. block (λ i. f i / 2 ^ k % 2))))) (λ k. block (q k)) (by_bytes (λ k i. f i / 2 ^ k % 2)))
@@ -87,4 +85,4 @@ by_circuit a h =
     let is : a ≡ block_of 16 (byte_of a) = whole_block a h in
     let low : AreBytes (byte_of a) = bytes_of a in
     ap (λ (x : ℕ). bit_xor (joined (circuit (planes x))) 0x63636363636363636363636363636363) is
-    ∙ (by_block (byte_of a) low ∙ (sym (sub_bytes_is (byte_of a) low) ∙ ap sub_bytes (sym is)))
+    ∙ (by_block (byte_of a) low ∙ (sym (s_box_block (its_block (byte_of a) low)).is ∙ ap sub_bytes (sym is)))
