@@ -1,4 +1,5 @@
-"""What is hashed (RFC 4253 section 8), what is signed (RFC 4252 section 7), and keys (RFC 4253 section 7.2) by SHA-256."""
+"""What is hashed (RFC 4253 section 8), what is signed (RFC 4252 section 7), and keys (RFC 4253 section 7.2) by SHA-256; and the shares of
+both lab suites, as docs/SSHLAB.md has them."""
 from lab import *
 
 
@@ -25,6 +26,30 @@ def rows(file):
                 + string(key))
         file.row("signed request of %d" % len(text), "derive", parts(session, user, service_name, algorithm, key), "signed " + hexa(text))
     keys(file, t, k)
+    shares(file)
+
+
+def lab_answer(random, client):
+    """The server's share, and what is shared."""
+    return share(random), shared(random, client)
+
+
+def second_answer(random, client):
+    own = b"\x03" + xor(random, client[1:])
+    return own, sha(random, client, own)
+
+
+def shares(file):
+    """Both sides' calls of a key exchange; and shares that are refused: of the other suite or the other side, and with one byte more or less."""
+    for suite, first, wrong, answer in (("lab", 1, (0, 2, 3), lab_answer), ("second", 2, (0, 1, 3), second_answer)):
+        for name, a, b in (("equal bytes", b"\x11" * 32, b"\x33" * 32), ("counted bytes", bytes(range(32)), bytes(range(255, 223, -1)))):
+            client = bytes([first]) + a
+            server, number = answer(b, client)
+            data = lambda *parts_: " ".join(hexa(part) for part in parts_)
+            refused = [bytes([byte]) + a for byte in wrong] + [client[:-1], client + b"\x00", b""]
+            back = [bytes([byte]) + server[1:] for byte in range(4) if byte != server[0]] + [server[:-1], server + b"\x00", b""]
+            file.row("shares of the suite %s, %s" % (suite, name), "suite " + suite, "public k " + data(a, client), "respond k " + data(b, client, server + number),
+                     "shared k " + data(a, server, number), ["respond k %s none" % data(b, it) for it in refused], ["shared k %s none" % data(a, it) for it in back])
 
 
 def keys(file, t, k):

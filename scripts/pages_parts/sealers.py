@@ -15,7 +15,6 @@ ALLOWED = {
     'crates/sshpacket/src/suite.rt': 'what a suite has to know of it',
     'crates/sshpacket/src/write.rt': 'its body, and that of write_next',
     'crates/sshrows_acts/src/below_written.rt': 'rows of single packets, by keys that each of them names',
-    'crates/sshtests/src/packets.rt': 'single packets',
 }
 
 

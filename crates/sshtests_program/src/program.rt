@@ -1,11 +1,10 @@
-//! Writes of `tool` that fail at some byte, and words that can't be had as text.
+//! Writes of `tool` that fail at some byte.
 
 ghost use Rattle.std.specs.Prelude.{◌≡◌, false};
 
 use crate::compare::{prefix_of, same, same_count};
-use sshlab::{Broken, Sink, StreamSource, refuse_words, tool};
+use sshlab::{Broken, Sink, StreamSource, tool};
 use std::alloc::{AllocError, Global};
-use std::io;
 use std::process::Abort;
 use std::test::Fail;
 
@@ -96,67 +95,25 @@ fn status_of(
     tool(alloc, words, &mut input, output, faults)
 }
 
-/// What keeps the words from being text has to be told so.
-fn is_told(rt: &impl Abort, alloc: Global, kind: io::ErrorKind, status: usize, fault: &[u8]) {
-    let mut faults = LimitedSink::ample(alloc);
-    let found = refuse_words(io::Error::from(kind), &mut faults);
-    same_count(rt, usize::from(found), status);
-    same(rt, &faults.bytes, fault);
-}
+/// Words, what there is to read, and what is printed for them.
+type Printed = (&'static str, &'static str, &'static str);
 
-#[test]
-fn refuses_words_that_are_no_text(rt: HostRuntime) {
-    let alloc = rt.alloc();
-    is_told(&rt, alloc, io::ErrorKind::InvalidData, 2, b"bad words\n");
-    is_told(
-        &rt,
-        alloc,
-        io::ErrorKind::OutOfMemory,
-        3,
-        b"out of memory\n",
-    );
-}
-
-/// Words, what there is to read, what is printed for them, and the status.
-type Printed = (&'static str, &'static str, &'static str, usize);
-
-/// What is printed by each subcommand.
+/// What is printed by an answer that is made of words, by one that is made of input, and by an engine.
 const PRINTED: &[Printed] = &[
     (
         "greet|alpha|beta|s5,c99,s99",
         "",
         "client got SSH-2.0-beta\nserver got SSH-2.0-alpha\ncomplete yes\n",
-        0,
     ),
     (
         "run",
         "settle 5",
         "client failed F14\nserver closed 14\ncomplete yes\n",
-        0,
-    ),
-    (
-        "run",
-        "settle 0",
-        "client open\nserver open\ncomplete no\n",
-        1,
-    ),
-    (
-        "predict",
-        "settle 5",
-        "client failed F14\nserver closed 14\n",
-        0,
     ),
     (
         "show",
         "c 5353482d322e302d610d0a\nc 0000000c0a1500000000000000000000\nc ffff\n",
         "client version SSH-2.0-a\nclient 0 21 NEWKEYS 1\nclient sealed 2\nserver partial 0\n",
-        0,
-    ),
-    (
-        "check",
-        "c 5353482d322e302d610d0a\nc 0000000c0a1500000000000000000000\nc ffff\n",
-        "strict unknown\nclient nokexinit\nserver partial\n",
-        1,
     ),
 ];
 
@@ -168,7 +125,7 @@ fn breaks_at(
     room: usize,
     full: WhenFull,
 ) -> Result<(), Fail> {
-    let (words, text, wanted, _) = printed;
+    let (words, text, wanted) = printed;
     let words = words_of(alloc, words)?;
     let mut output = LimitedSink::of(alloc, room, 7, full);
     let mut faults = LimitedSink::ample(alloc);
@@ -180,25 +137,13 @@ fn breaks_at(
     Ok(())
 }
 
-/// The output has to be printed whole where there is room for it.
-fn is_whole(rt: &impl Abort, alloc: Global, printed: &Printed) -> Result<(), Fail> {
-    let (words, text, wanted, done) = printed;
-    let words = words_of(alloc, words)?;
-    let mut output = LimitedSink::of(alloc, wanted.len(), 1, WhenFull::Fails);
-    let mut faults = LimitedSink::ample(alloc);
-    let status = status_of(alloc, &words, text.as_bytes(), &mut output, &mut faults);
-    same_count(rt, usize::from(status), *done);
-    same(rt, &output.bytes, wanted.as_bytes());
-    Ok(())
-}
-
-/// The output has to break wherever there is no more room, and to be whole where there is.
+/// The output has to break wherever there is no more room.
 fn breaks_anywhere(rt: &impl Abort, alloc: Global, printed: &Printed) -> Result<(), Fail> {
     for room in 0..printed.2.len() {
         breaks_at(rt, alloc, printed, room, WhenFull::Fails)?;
         breaks_at(rt, alloc, printed, room, WhenFull::TakesNone)?;
     }
-    is_whole(rt, alloc, printed)
+    Ok(())
 }
 
 #[test]
@@ -208,31 +153,4 @@ fn tells_a_failed_write(rt: HostRuntime) -> Result<(), Fail> {
         breaks_anywhere(&rt, alloc, printed)?;
     }
     Ok(())
-}
-
-/// The words have to bring this status where the output is full and the faults take three bytes.
-fn keeps(
-    rt: &impl Abort,
-    alloc: Global,
-    words: &str,
-    full: WhenFull,
-    wanted: usize,
-) -> Result<(), Fail> {
-    let words = words_of(alloc, words)?;
-    let mut output = LimitedSink::of(alloc, 0, 1, full);
-    let mut faults = LimitedSink::of(alloc, 3, 2, full);
-    let status = status_of(alloc, &words, b"", &mut output, &mut faults);
-    same_count(rt, usize::from(status), wanted);
-    same_count(rt, faults.bytes.len(), 3);
-    Ok(())
-}
-
-#[test]
-fn keeps_the_status_where_no_fault_can_be_told(rt: HostRuntime) -> Result<(), Fail> {
-    let alloc = rt.alloc();
-    keeps(&rt, alloc, "help", WhenFull::Fails, 2)?;
-    keeps(&rt, alloc, "help", WhenFull::TakesNone, 2)?;
-    keeps(&rt, alloc, "greet|a|b|s5", WhenFull::Fails, 4)?;
-    keeps(&rt, alloc, "greet|a|b|s5", WhenFull::TakesNone, 4)?;
-    keeps(&rt, alloc, "run", WhenFull::Fails, 4)
 }

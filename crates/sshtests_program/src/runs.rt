@@ -4,12 +4,39 @@ ghost use Rattle.std.specs.Prelude.{◌≡◌, false};
 
 use crate::compare::{same, same_count};
 use crate::program::{LimitedSink, WhenFull, words_of};
-use crate::recordings::TextSource;
-use sshlab::tool;
+use sshlab::{Broken, Source, tool};
 use std::alloc::Global;
 use std::process::Abort;
 use std::test::Fail;
 use std::time::{CpuClock, Duration};
+
+/// A source that gives at most `step` bytes of a text a call, and fails after it or ends there.
+#[derive(Drop)]
+struct TextSource<'a> {
+    rest: &'a [u8],
+    step: usize,
+    fails: bool,
+    failed: bool,
+}
+
+impl Source for TextSource<'_> {
+    ghost has_failed = { λ s. s.failed };
+
+    fn read(&mut self, buffer: &mut [u8]) -> Result<usize, Broken> {
+        let count = self.rest.len().min(self.step).min(buffer.len());
+        if count == 0 && self.fails {
+            self.failed = true;
+            return Err(Broken);
+        }
+        buffer[..count].copy_from_slice(&self.rest[..count]);
+        self.rest = &self.rest[count..];
+        Ok(count)
+    }
+
+    fn failed(&self) -> bool {
+        self.failed
+    }
+}
 
 /// What is written to the output and to the faults, and the status.
 #[derive(Clone, Copy)]
@@ -153,13 +180,6 @@ fn reads_nothing_after_the_first_byte_too_many(rt: HostRuntime) -> Result<(), Fa
     let alloc = rt.alloc();
     let text = text_of(alloc, "x", "\n", 1_048_676)?;
     all_leave(&rt, alloc, &text, TOO_LONG, 100)
-}
-
-#[test]
-fn tells_a_failed_read_after_1048576_bytes(rt: HostRuntime) -> Result<(), Fail> {
-    let alloc = rt.alloc();
-    let text = text_of(alloc, "x", "\n", 1_048_575)?;
-    all_leave(&rt, alloc, &text, READ_FAILED, 0)
 }
 
 #[test]
