@@ -352,7 +352,7 @@ pub record AreTight (a : List ℕ) : Type 0 where
   pub l3 : slice_index a 3 < 2 ^ 51
   pub l4 : slice_index a 4 < 2 ^ 51
 
-below_tight : (a : List ℕ) → AreTight a → AreBelow (2 ^ 52) a
+pub below_tight : (a : List ℕ) → AreTight a → AreBelow (2 ^ 52) a
 below_tight a h = record { l0 = h.l0; l1 = omega (arith, h.l1); l2 = omega (arith, h.l2); l3 = omega (arith, h.l3); l4 = omega (arith, h.l4) }
 
 pub least : (x : ℕ) → x % 2 ^ 51 < 2 ^ 51

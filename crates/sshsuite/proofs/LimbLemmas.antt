@@ -1,9 +1,9 @@
--- The five sums of a product of numbers of five limbs.
+-- The five sums of a product of numbers of five limbs, and one subtraction of the modulus.
 
-use Rattle.std.proofs.Common.{◌≡◌, ℕ, ◌+◌, ◌*◌, ◌^◌, ◌<◌, List, [], ◌∷◌, arith}
+use Rattle.std.proofs.Common.{◌≡◌, ℕ, ◌+◌, ◌*◌, ◌/◌, ◌%◌, ◌^◌, ◌<◌, ◌≤◌, List, [], ◌∷◌, lt_of_lt_of_le, sym, ap, ◌∙◌, arith}
 use Rattle.std.specs.Prelude.{slice_index}
 use Rattle.sshsuite.specs.FieldValues.{AreBelow}
-use Rattle.sshsuite.specs.Limbs.{add64}
+use Rattle.sshsuite.specs.Limbs.{add64, mul64, reduced_once}
 
 -- the sum of the products at each place
 abbrev pub at_places : List ℕ → List ℕ → ℕ
@@ -54,4 +54,60 @@ module _ (k m n top : ℕ) (dot : List ℕ → List ℕ → ℕ) (is : (a b : Li
           p4 = f4.0;
         },
         record { l0 = f0.1; l1 = f1.1; l2 = f2.1; l3 = f3.1; l4 = f4.1 },
+      )
+
+-- the number of a list's five limbs
+abbrev pub by_limbs : (ℕ → ℕ → ℕ → ℕ → ℕ → ℕ) → List ℕ → ℕ
+by_limbs weighed a = weighed (slice_index a 0) (slice_index a 1) (slice_index a 2) (slice_index a 3) (slice_index a 4)
+
+-- limbs of this radix, of which those that are hardly more are below a bound; the radix's fifth power exceeds the modulus by so much
+pub record IsRadix (radix excess most span modulus : ℕ) (weighed : ℕ → ℕ → ℕ → ℕ → ℕ → ℕ) : Type 0 where
+  pub eight : 8 ≤ most
+  pub first : excess < most
+  pub rest : (x : ℕ) → x % radix < radix
+  pub parted : (x y : ℕ) → x < most → y < most → (x + y ≡ radix * (add64 x y / radix) + add64 x y % radix) × (add64 x y / radix < 8)
+  pub times : (n : ℕ) → n < 8 → (mul64 n excess ≡ excess * n) × (mul64 n excess < most)
+  pub chain : (l0 l1 l2 l3 l4 first q0 q1 q2 q3 q4 r0 r1 r2 r3 r4 : ℕ) → l0 + first ≡ radix * q0 + r0 → l1 + q0 ≡ radix * q1 + r1 → l2 + q1 ≡ radix * q2 + r2
+      → l3 + q2 ≡ radix * q3 + r3 → l4 + q3 ≡ radix * q4 + r4 → weighed l0 l1 l2 l3 l4 + first ≡ weighed r0 r1 r2 r3 r4 + span * q4
+  pub bounded : (l0 l1 l2 l3 l4 : ℕ) → l0 < radix → l1 < radix → l2 < radix → l3 < radix → l4 < radix → weighed l0 l1 l2 l3 l4 < span
+  pub settled : (v r s over top : ℕ) → v + excess ≡ r + span * over → r < span → v + excess * over ≡ s + span * top → s < span → v < 2 * modulus → s ≡ v % modulus
+
+module _ (radix excess most span modulus : ℕ) (weighed : ℕ → ℕ → ℕ → ℕ → ℕ → ℕ) (is : IsRadix radix excess most span modulus weighed) where
+  pub reduced_value : (l : List ℕ) → AreBelow most l → by_limbs weighed l < 2 * modulus
+      → AreBelow radix (reduced_once radix excess l) × (by_limbs weighed (reduced_once radix excess l) ≡ by_limbs weighed l % modulus)
+  unfolding reduced_once
+  reduced_value l h low =
+      let l0 : ℕ = slice_index l 0 in
+      let l1 : ℕ = slice_index l 1 in
+      let l2 : ℕ = slice_index l 2 in
+      let l3 : ℕ = slice_index l 3 in
+      let l4 : ℕ = slice_index l 4 in
+      let o0 : ℕ = add64 l0 excess / radix in
+      let s0 = is.parted l0 excess h.l0 is.first in
+      let o1 : ℕ = add64 l1 o0 / radix in
+      let s1 = is.parted l1 o0 h.l1 (lt_of_lt_of_le s0.1 is.eight) in
+      let o2 : ℕ = add64 l2 o1 / radix in
+      let s2 = is.parted l2 o1 h.l2 (lt_of_lt_of_le s1.1 is.eight) in
+      let o3 : ℕ = add64 l3 o2 / radix in
+      let s3 = is.parted l3 o2 h.l3 (lt_of_lt_of_le s2.1 is.eight) in
+      let over : ℕ = add64 l4 o3 / radix in
+      let s4 = is.parted l4 o3 h.l4 (lt_of_lt_of_le s3.1 is.eight) in
+      let times = is.times over s4.1 in
+      let m0 : ℕ = add64 l0 (mul64 over excess) in
+      let u0 = is.parted l0 (mul64 over excess) h.l0 times.1 in
+      let m1 : ℕ = add64 l1 (m0 / radix) in
+      let u1 = is.parted l1 (m0 / radix) h.l1 (lt_of_lt_of_le u0.1 is.eight) in
+      let m2 : ℕ = add64 l2 (m1 / radix) in
+      let u2 = is.parted l2 (m1 / radix) h.l2 (lt_of_lt_of_le u1.1 is.eight) in
+      let m3 : ℕ = add64 l3 (m2 / radix) in
+      let u3 = is.parted l3 (m2 / radix) h.l3 (lt_of_lt_of_le u2.1 is.eight) in
+      let m4 : ℕ = add64 l4 (m3 / radix) in
+      let u4 = is.parted l4 (m3 / radix) h.l4 (lt_of_lt_of_le u3.1 is.eight) in
+      let once = is.chain l0 l1 l2 l3 l4 excess o0 o1 o2 o3 over _ _ _ _ _ s0.0 s1.0 s2.0 s3.0 s4.0 in
+      let twice = is.chain l0 l1 l2 l3 l4 (mul64 over excess) (m0 / radix) (m1 / radix) (m2 / radix) (m3 / radix) (m4 / radix) _ _ _ _ _ u0.0 u1.0 u2.0 u3.0 u4.0 in
+      let below : AreBelow radix (reduced_once radix excess l) = record { l0 = is.rest m0; l1 = is.rest m1; l2 = is.rest m2; l3 = is.rest m3; l4 = is.rest m4 } in (
+        below,
+        is.settled (by_limbs weighed l) _ (by_limbs weighed (reduced_once radix excess l)) over (m4 / radix)
+            once (is.bounded _ _ _ _ _ (is.rest _) (is.rest _) (is.rest _) (is.rest _) (is.rest _)) (ap (λ (n : ℕ). by_limbs weighed l + n) (sym times.0) ∙ twice)
+            (is.bounded _ _ _ _ _ below.l0 below.l1 below.l2 below.l3 below.l4) low,
       )

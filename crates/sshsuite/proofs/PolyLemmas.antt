@@ -10,9 +10,9 @@ use Rattle.sshwire.specs.ByteLaws.{bytes_append, bytes_cons, bytes_dropped, byte
 use Rattle.sshwire.specs.Types.{IsBytes}
 use Rattle.sshsuite.specs.Bits.{word_at}
 use Rattle.sshsuite.specs.FieldValues.{AreBelow}
-use Rattle.sshsuite.specs.Limbs.{add64, mul64, reduced_once}
+use Rattle.sshsuite.specs.Limbs.{add64, mul64}
 use Rattle.sshsuite.specs.Poly1305.{accumulated, add, block_at, block_limbs, canonical, carried, clamped_r, dot, limbs_of, mul, packed, s_of, sum_to, tag_of}
-use Rattle.sshsuite.proofs.LimbLemmas.{at_places, folded, whole64}
+use Rattle.sshsuite.proofs.LimbLemmas.{IsRadix, at_places, folded, reduced_value, whole64}
 use Rattle.sshsuite.proofs.WordLemmas.{or_high, word_low, zero_bytes}
 use Rattle.sshsuite.specs.PolyNumbers.{accumulator, block_number, mac, modulus, number_of_16, r_number, s_number}
 
@@ -267,63 +267,30 @@ chain : (l0 l1 l2 l3 l4 first q0 q1 q2 q3 q4 r0 r1 r2 r3 r4 : ℕ) → l0 + firs
     → l3 + q2 ≡ 2 ^ 26 * q3 + r3 → l4 + q3 ≡ 2 ^ 26 * q4 + r4 → weighed l0 l1 l2 l3 l4 + first ≡ weighed r0 r1 r2 r3 r4 + 2 ^ 130 * q4
 chain l0 l1 l2 l3 l4 first q0 q1 q2 q3 q4 r0 r1 r2 r3 r4 e0 e1 e2 e3 e4 = omega arith
 
-sum64 : (x y : ℕ) → x < 2 ^ 28 → y < 2 ^ 28 → x + y ≡ 2 ^ 26 * (add64 x y / 2 ^ 26) + add64 x y % 2 ^ 26
-sum64 x y h k = omega arith
-
-over_low : (x y : ℕ) → x < 2 ^ 28 → y < 2 ^ 28 → add64 x y / 2 ^ 26 < 8
-over_low x y h k = omega arith
-
 bounded : (l0 l1 l2 l3 l4 : ℕ) → l0 < 2 ^ 26 → l1 < 2 ^ 26 → l2 < 2 ^ 26 → l3 < 2 ^ 26 → l4 < 2 ^ 26 → weighed l0 l1 l2 l3 l4 < 2 ^ 130
 bounded l0 l1 l2 l3 l4 h0 h1 h2 h3 h4 = omega arith
 
 carried_low : (l0 l1 l2 l3 l4 : ℕ) → l0 < 2 ^ 26 → l1 ≤ 2 ^ 26 + 2 ^ 13 → l2 < 2 ^ 26 → l3 < 2 ^ 26 → l4 < 2 ^ 26 → weighed l0 l1 l2 l3 l4 < 2 * modulus
 carried_low l0 l1 l2 l3 l4 h0 h1 h2 h3 h4 = omega arith
 
+radix : IsRadix (2 ^ 26) 5 (2 ^ 28) (2 ^ 130) modulus weighed
+radix = record {
+  eight = omega arith;
+  first = omega arith;
+  rest = low26;
+  parted = λ x y h k. (omega arith, omega arith);
+  times = λ n h. (omega arith, omega arith);
+  chain = chain;
+  bounded = bounded;
+  settled = settled;
+}
+
 canonical_value : (l : List ℕ) → AreCarried (2 ^ 26 + 2 ^ 13) l → AreBelow (2 ^ 26) (canonical l) × (value (canonical l) ≡ value l % modulus)
-unfolding canonical reduced_once
+unfolding canonical
 canonical_value l h =
-    let l0 : ℕ = slice_index l 0 in
-    let l1 : ℕ = slice_index l 1 in
-    let l2 : ℕ = slice_index l 2 in
-    let l3 : ℕ = slice_index l 3 in
-    let l4 : ℕ = slice_index l 4 in
-    let k0 : l0 < 2 ^ 28 = omega (arith, h.l0) in
-    let k1 : l1 < 2 ^ 28 = omega (arith, h.l1) in
-    let k2 : l2 < 2 ^ 28 = omega (arith, h.l2) in
-    let k3 : l3 < 2 ^ 28 = omega (arith, h.l3) in
-    let k4 : l4 < 2 ^ 28 = omega (arith, h.l4) in
-    let o0 : ℕ = add64 l0 5 / 2 ^ 26 in
-    let p0 : o0 < 2 ^ 28 = omega (arith, over_low l0 5 k0 (omega arith)) in
-    let o1 : ℕ = add64 l1 o0 / 2 ^ 26 in
-    let p1 : o1 < 2 ^ 28 = omega (arith, over_low l1 o0 k1 p0) in
-    let o2 : ℕ = add64 l2 o1 / 2 ^ 26 in
-    let p2 : o2 < 2 ^ 28 = omega (arith, over_low l2 o1 k2 p1) in
-    let o3 : ℕ = add64 l3 o2 / 2 ^ 26 in
-    let p3 : o3 < 2 ^ 28 = omega (arith, over_low l3 o2 k3 p2) in
-    let over : ℕ = add64 l4 o3 / 2 ^ 26 in
-    let p4 : over < 8 = over_low l4 o3 k4 p3 in
-    let times : mul64 over 5 ≡ 5 * over = omega (arith, p4) in
-    let t0 : mul64 over 5 < 2 ^ 28 = omega (arith, times, p4) in
-    let m0 : ℕ = add64 l0 (mul64 over 5) in
-    let q0 : m0 / 2 ^ 26 < 2 ^ 28 = omega (arith, over_low l0 (mul64 over 5) k0 t0) in
-    let m1 : ℕ = add64 l1 (m0 / 2 ^ 26) in
-    let q1 : m1 / 2 ^ 26 < 2 ^ 28 = omega (arith, over_low l1 (m0 / 2 ^ 26) k1 q0) in
-    let m2 : ℕ = add64 l2 (m1 / 2 ^ 26) in
-    let q2 : m2 / 2 ^ 26 < 2 ^ 28 = omega (arith, over_low l2 (m1 / 2 ^ 26) k2 q1) in
-    let m3 : ℕ = add64 l3 (m2 / 2 ^ 26) in
-    let q3 : m3 / 2 ^ 26 < 2 ^ 28 = omega (arith, over_low l3 (m2 / 2 ^ 26) k3 q2) in
-    let m4 : ℕ = add64 l4 (m3 / 2 ^ 26) in
-    let first = chain l0 l1 l2 l3 l4 5 o0 o1 o2 o3 over (add64 l0 5 % 2 ^ 26) (add64 l1 o0 % 2 ^ 26) (add64 l2 o1 % 2 ^ 26) (add64 l3 o2 % 2 ^ 26) (add64 l4 o3 % 2 ^ 26)
-    (sum64 l0 5 k0 (omega arith)) (sum64 l1 o0 k1 p0) (sum64 l2 o1 k2 p1) (sum64 l3 o2 k3 p2) (sum64 l4 o3 k4 p3) in
-    let second = chain l0 l1 l2 l3 l4 (mul64 over 5) (m0 / 2 ^ 26) (m1 / 2 ^ 26) (m2 / 2 ^ 26) (m3 / 2 ^ 26) (m4 / 2 ^ 26)
-    (m0 % 2 ^ 26) (m1 % 2 ^ 26) (m2 % 2 ^ 26) (m3 % 2 ^ 26) (m4 % 2 ^ 26)
-    (sum64 l0 (mul64 over 5) k0 t0) (sum64 l1 (m0 / 2 ^ 26) k1 q0) (sum64 l2 (m1 / 2 ^ 26) k2 q1) (sum64 l3 (m2 / 2 ^ 26) k3 q2) (sum64 l4 (m3 / 2 ^ 26) k4 q3) in
-    let below : AreBelow (2 ^ 26) (canonical l) = record { l0 = low26 m0; l1 = low26 m1; l2 = low26 m2; l3 = low26 m3; l4 = low26 m4 } in (
-      below,
-      settled (value l) (weighed (add64 l0 5 % 2 ^ 26) (add64 l1 o0 % 2 ^ 26) (add64 l2 o1 % 2 ^ 26) (add64 l3 o2 % 2 ^ 26) (add64 l4 o3 % 2 ^ 26)) (value (canonical l)) over (m4 / 2 ^ 26)
-          first (bounded _ _ _ _ _ (low26 _) (low26 _) (low26 _) (low26 _) (low26 _)) (ap (λ (n : ℕ). value l + n) (sym times) ∙ second)
-          (bounded _ _ _ _ _ below.l0 below.l1 below.l2 below.l3 below.l4) (carried_low l0 l1 l2 l3 l4 h.l0 h.l1 h.l2 h.l3 h.l4),
-    )
+    reduced_value (2 ^ 26) 5 (2 ^ 28) (2 ^ 130) modulus weighed radix l
+    (record { l0 = omega (arith, h.l0); l1 = omega (arith, h.l1); l2 = omega (arith, h.l2); l3 = omega (arith, h.l3); l4 = omega (arith, h.l4) })
+    (carried_low _ _ _ _ _ h.l0 h.l1 h.l2 h.l3 h.l4)
 
 -- Limbs to bytes.
 packed_value : (l : List ℕ) → AreBelow (2 ^ 26) l → packed l ≡ value l % 2 ^ 128
