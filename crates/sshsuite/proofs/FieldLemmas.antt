@@ -2,12 +2,11 @@
 -- lost, and the number of the limbs is what it is to be modulo 2^255 - 19.
 
 use Rattle.std.proofs.Common.{◌≡◌, ℕ, ◌+◌, ◌*◌, ◌/◌, ◌%◌, ◌^◌, ◌<◌, ◌≤◌, List, [], ◌∷◌, sym, ap, ap₂, ◌∙◌, arith}
-use Rattle.std.proofs.Math.Nat.{mul-le-mul_left}
 use Rattle.std.specs.Prelude.{slice_index}
 use Rattle.sshsuite.specs.FieldElement.{above, add, carried, carried_once, dot, less, limbs_of, loose_difference, loose_sum, mul, scaled, squared, sub, three, with_carry}
 use Rattle.sshsuite.specs.Limbs.{add64, add128, mul64, mul128}
 use Rattle.sshsuite.specs.FieldValues.{AreBelow, field, value, weighed}
-use Rattle.sshsuite.proofs.LimbLemmas.{at_places, moved, whole64}
+use Rattle.sshsuite.proofs.LimbLemmas.{at_places, below, dotted, moved, whole64}
 
 -- one pass of carries
 pass : (c0 c1 c2 c3 c4 q0 q1 q2 q3 q4 r0 r1 r2 r3 r4 : ℕ) → c0 ≡ 2 ^ 51 * q0 + r0 → c1 + q0 ≡ 2 ^ 51 * q1 + r1 → c2 + q1 ≡ 2 ^ 51 * q2 + r2
@@ -92,30 +91,6 @@ module _ (c0 c1 c2 c3 c4 : ℕ) (h0 : c0 < 96 * 2 ^ 108) (h1 : c1 < 96 * 2 ^ 108
         sym (multiple (weighed c0 c1 c2 c3 c4) (weighed (d0 % 2 ^ 51) d1 (e2 % 2 ^ 51) (e3 % 2 ^ 51) (e4 % 2 ^ 51)) (e4 / 2 ^ 51) all),
       )
 
--- a product, by bounds of its factors
-below : (a b m n : ℕ) → a < m → b < n → a * b < m * n
-below a b m n h k =
-    let first : a * b ≤ a * n = mul-le-mul_left a (omega (arith, k)) in
-    let second : n * (a + 1) ≤ n * m = mul-le-mul_left n (omega (arith, h)) in
-    omega (arith, first, second, k)
-
--- five products
-sums : (x0 x1 x2 x3 x4 : ℕ) → x0 < 19 * 2 ^ 108 → x1 < 19 * 2 ^ 108 → x2 < 19 * 2 ^ 108 → x3 < 19 * 2 ^ 108 → x4 < 19 * 2 ^ 108
-    → add128 (add128 (add128 (add128 (x0 % 2 ^ 128) (x1 % 2 ^ 128)) (x2 % 2 ^ 128)) (x3 % 2 ^ 128)) (x4 % 2 ^ 128) ≡ x0 + x1 + x2 + x3 + x4
-sums x0 x1 x2 x3 x4 h0 h1 h2 h3 h4 =
-    let s0 : x0 % 2 ^ 128 ≡ x0 = omega (arith, h0) in
-    let s1 : x1 % 2 ^ 128 ≡ x1 = omega (arith, h1) in
-    let s2 : x2 % 2 ^ 128 ≡ x2 = omega (arith, h2) in
-    let s3 : x3 % 2 ^ 128 ≡ x3 = omega (arith, h3) in
-    let s4 : x4 % 2 ^ 128 ≡ x4 = omega (arith, h4) in
-    let t1 : add128 (x0 % 2 ^ 128) (x1 % 2 ^ 128) ≡ x0 + x1 = whole (x0 % 2 ^ 128) (x1 % 2 ^ 128) (omega (arith, s0, h0)) (omega (arith, s1, h1)) ∙ omega (arith, s0, s1) in
-    let t2 : add128 (add128 (x0 % 2 ^ 128) (x1 % 2 ^ 128)) (x2 % 2 ^ 128) ≡ x0 + x1 + x2
-    = whole (add128 (x0 % 2 ^ 128) (x1 % 2 ^ 128)) (x2 % 2 ^ 128) (omega (arith, t1, h0, h1)) (omega (arith, s2, h2)) ∙ omega (arith, t1, s2) in
-    let t3 : add128 (add128 (add128 (x0 % 2 ^ 128) (x1 % 2 ^ 128)) (x2 % 2 ^ 128)) (x3 % 2 ^ 128) ≡ x0 + x1 + x2 + x3
-    = whole (add128 (add128 (x0 % 2 ^ 128) (x1 % 2 ^ 128)) (x2 % 2 ^ 128)) (x3 % 2 ^ 128) (omega (arith, t2, h0, h1, h2)) (omega (arith, s3, h3)) ∙ omega (arith, t2, s3) in
-    whole (add128 (add128 (add128 (x0 % 2 ^ 128) (x1 % 2 ^ 128)) (x2 % 2 ^ 128)) (x3 % 2 ^ 128)) (x4 % 2 ^ 128) (omega (arith, t3, h0, h1, h2, h3)) (omega (arith, s4, h4))
-    ∙ omega (arith, t3, s4)
-
 -- nineteen times 2^54
 abbrev folded_bound : ℕ
 folded_bound = 342273571680157696
@@ -124,14 +99,8 @@ dot_value : (a b : List ℕ) → AreBelow (2 ^ 54) a → AreBelow folded_bound b
     → (dot a b ≡ at_places a b) × (dot a b < 96 * 2 ^ 108)
 unfolding dot
 dot_value a b h k =
-    let m0 : slice_index a 0 * slice_index b 0 < 19 * 2 ^ 108 = below (slice_index a 0) (slice_index b 0) (2 ^ 54) folded_bound h.l0 k.l0 in
-    let m1 : slice_index a 1 * slice_index b 1 < 19 * 2 ^ 108 = below (slice_index a 1) (slice_index b 1) (2 ^ 54) folded_bound h.l1 k.l1 in
-    let m2 : slice_index a 2 * slice_index b 2 < 19 * 2 ^ 108 = below (slice_index a 2) (slice_index b 2) (2 ^ 54) folded_bound h.l2 k.l2 in
-    let m3 : slice_index a 3 * slice_index b 3 < 19 * 2 ^ 108 = below (slice_index a 3) (slice_index b 3) (2 ^ 54) folded_bound h.l3 k.l3 in
-    let m4 : slice_index a 4 * slice_index b 4 < 19 * 2 ^ 108 = below (slice_index a 4) (slice_index b 4) (2 ^ 54) folded_bound h.l4 k.l4 in
-    let is = sums (slice_index a 0 * slice_index b 0) (slice_index a 1 * slice_index b 1) (slice_index a 2 * slice_index b 2)
-    (slice_index a 3 * slice_index b 3) (slice_index a 4 * slice_index b 4) m0 m1 m2 m3 m4 in
-    (is, omega (arith, is, m0, m1, m2, m3, m4))
+    let sum = dotted (2 ^ 128) (2 ^ 54) folded_bound a b (omega arith) h k in
+    (sum.0, omega (arith, sum.0, sum.1))
 
 -- the product of two numbers by limbs
 expand : (a0 a1 a2 a3 a4 b0 b1 b2 b3 b4 c0 c1 c2 c3 c4 : ℕ)

@@ -1,6 +1,7 @@
 -- The five sums of a product of numbers of five limbs, and one subtraction of the modulus.
 
-use Rattle.std.proofs.Common.{◌≡◌, ℕ, ◌+◌, ◌*◌, ◌/◌, ◌%◌, ◌^◌, ◌<◌, ◌≤◌, List, [], ◌∷◌, lt_of_lt_of_le, sym, ap, ◌∙◌, arith}
+use Rattle.std.proofs.Common.{◌≡◌, ℕ, ◌+◌, ◌*◌, ◌/◌, ◌%◌, ◌^◌, ◌<◌, ◌≤◌, List, [], ◌∷◌, lt_of_lt_of_le, mod-eq_of_lt, refl, sym, ap, ◌∙◌, arith}
+use Rattle.std.proofs.Math.Nat.{add-mod, mul-le-mul_left}
 use Rattle.std.specs.Prelude.{slice_index}
 use Rattle.sshsuite.specs.FieldValues.{AreBelow}
 use Rattle.sshsuite.specs.Limbs.{add64, mul64, reduced_once}
@@ -23,6 +24,30 @@ whole64 x y h k = omega arith
 
 pub moved : (k x y s : ℕ) → s ≡ k * y → x * s ≡ k * (x * y)
 moved k x y s e = rw e (omega arith)
+
+-- a product, by bounds of its factors
+pub below : (a b m n : ℕ) → a < m → b < n → a * b < m * n
+below a b m n h k =
+    let first : a * b ≤ a * n = mul-le-mul_left a (omega (arith, k)) in
+    let second : n * (a + 1) ≤ n * m = mul-le-mul_left n (omega (arith, h)) in
+    omega (arith, first, second, k)
+
+-- five sums, each taken modulo a number
+modulo : (w s x y : ℕ) → s ≡ y % w → (s + x % w) % w ≡ (y + x) % w
+modulo w s x y e = ap (λ (n : ℕ). (n + x % w) % w) e ∙ sym (add-mod y x w)
+
+-- the sum of the products at each place, taken modulo a number that is more than it
+module _ (w m n : ℕ) (a b : List ℕ) (room : 5 * (m * n) ≤ w) (h : AreBelow m a) (k : AreBelow n b) where
+  pub dotted : (((((slice_index a 0 * slice_index b 0 % w + slice_index a 1 * slice_index b 1 % w) % w + slice_index a 2 * slice_index b 2 % w) % w
+      + slice_index a 3 * slice_index b 3 % w) % w + slice_index a 4 * slice_index b 4 % w) % w ≡ at_places a b) × (at_places a b < 5 * (m * n))
+  dotted =
+      let m0 = below (slice_index a 0) (slice_index b 0) m n h.l0 k.l0 in
+      let m1 = below (slice_index a 1) (slice_index b 1) m n h.l1 k.l1 in
+      let m2 = below (slice_index a 2) (slice_index b 2) m n h.l2 k.l2 in
+      let m3 = below (slice_index a 3) (slice_index b 3) m n h.l3 k.l3 in
+      let m4 = below (slice_index a 4) (slice_index b 4) m n h.l4 k.l4 in
+      let low : at_places a b < 5 * (m * n) = omega (arith, m0, m1, m2, m3, m4) in
+      (modulo w _ _ _ (modulo w _ _ _ (modulo w _ _ _ (modulo w _ _ _ refl))) ∙ mod-eq_of_lt (lt_of_lt_of_le low room), low)
 
 -- by a sum of products that is right for factors below these bounds
 module _ (k m n top : ℕ) (dot : List ℕ → List ℕ → ℕ) (is : (a b : List ℕ) → AreBelow m a → AreBelow n b → (dot a b ≡ at_places a b) × (dot a b < top)) where

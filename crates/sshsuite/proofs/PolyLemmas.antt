@@ -1,7 +1,6 @@
 -- The code computes Poly1305 in numbers.
 
 use Rattle.std.proofs.Common.{◌≡◌, ℕ, zero, suc, ◌+◌, ◌-◌, ◌*◌, ◌/◌, ◌%◌, ◌^◌, ◌<◌, ◌≤◌, Bool, true, false, List, ◌∷◌, ◌++◌, length, refl, sym, ap, ap₂, ◌∙◌, arith, cond, eqb}
-use Rattle.std.proofs.Math.Nat.{mul-le-mul_left}
 use Rattle.std.proofs.lemmas.Nat.{and_le_r}
 use Rattle.std.specs.Int.{w128, to_le_bytes}
 use Rattle.std.specs.Int.Bits.{or_zero_r}
@@ -12,7 +11,7 @@ use Rattle.sshsuite.specs.Bits.{word_at}
 use Rattle.sshsuite.specs.FieldValues.{AreBelow}
 use Rattle.sshsuite.specs.Limbs.{add64, mul64}
 use Rattle.sshsuite.specs.Poly1305.{accumulated, add, block_at, block_limbs, canonical, carried, clamped_r, dot, limbs_of, mul, packed, s_of, sum_to, tag_of}
-use Rattle.sshsuite.proofs.LimbLemmas.{IsRadix, at_places, folded, reduced_value, whole64}
+use Rattle.sshsuite.proofs.LimbLemmas.{IsRadix, at_places, dotted, folded, reduced_value, whole64}
 use Rattle.sshsuite.proofs.WordLemmas.{or_high, word_low, zero_bytes}
 use Rattle.sshsuite.specs.PolyNumbers.{accumulator, block_number, mac, modulus, number_of_16, r_number, s_number}
 
@@ -112,38 +111,12 @@ module _ (a : List ℕ) (h : AreBelow (2 ^ 61) a) where
       )
 
 -- Products.
-below : (a b : ℕ) → a < 2 ^ 28 → b < 2 ^ 29 → a * b < 2 ^ 57
-below a b h k = let m : a * b ≤ a * 2 ^ 29 = mul-le-mul_left a (omega arith) in omega (arith, m)
-
--- five products
-sums : (x0 x1 x2 x3 x4 : ℕ) → x0 < 2 ^ 57 → x1 < 2 ^ 57 → x2 < 2 ^ 57 → x3 < 2 ^ 57 → x4 < 2 ^ 57
-    → add64 (add64 (add64 (add64 (x0 % 2 ^ 64) (x1 % 2 ^ 64)) (x2 % 2 ^ 64)) (x3 % 2 ^ 64)) (x4 % 2 ^ 64) ≡ x0 + x1 + x2 + x3 + x4
-sums x0 x1 x2 x3 x4 h0 h1 h2 h3 h4 =
-    let s0 : x0 % 2 ^ 64 ≡ x0 = omega (arith, h0) in
-    let s1 : x1 % 2 ^ 64 ≡ x1 = omega (arith, h1) in
-    let s2 : x2 % 2 ^ 64 ≡ x2 = omega (arith, h2) in
-    let s3 : x3 % 2 ^ 64 ≡ x3 = omega (arith, h3) in
-    let s4 : x4 % 2 ^ 64 ≡ x4 = omega (arith, h4) in
-    let t1 : add64 (x0 % 2 ^ 64) (x1 % 2 ^ 64) ≡ x0 + x1 = whole64 (x0 % 2 ^ 64) (x1 % 2 ^ 64) (omega (arith, s0, h0)) (omega (arith, s1, h1)) ∙ omega (arith, s0, s1) in
-    let t2 : add64 (add64 (x0 % 2 ^ 64) (x1 % 2 ^ 64)) (x2 % 2 ^ 64) ≡ x0 + x1 + x2
-    = whole64 (add64 (x0 % 2 ^ 64) (x1 % 2 ^ 64)) (x2 % 2 ^ 64) (omega (arith, t1, h0, h1)) (omega (arith, s2, h2)) ∙ omega (arith, t1, s2) in
-    let t3 : add64 (add64 (add64 (x0 % 2 ^ 64) (x1 % 2 ^ 64)) (x2 % 2 ^ 64)) (x3 % 2 ^ 64) ≡ x0 + x1 + x2 + x3
-    = whole64 (add64 (add64 (x0 % 2 ^ 64) (x1 % 2 ^ 64)) (x2 % 2 ^ 64)) (x3 % 2 ^ 64) (omega (arith, t2, h0, h1, h2)) (omega (arith, s3, h3)) ∙ omega (arith, t2, s3) in
-    whole64 (add64 (add64 (add64 (x0 % 2 ^ 64) (x1 % 2 ^ 64)) (x2 % 2 ^ 64)) (x3 % 2 ^ 64)) (x4 % 2 ^ 64) (omega (arith, t3, h0, h1, h2, h3)) (omega (arith, s4, h4))
-    ∙ omega (arith, t3, s4)
-
 dot_value : (a b : List ℕ) → AreBelow (2 ^ 28) a → AreBelow (2 ^ 29) b
     → (dot a b ≡ at_places a b) × (dot a b < 2 ^ 61)
 unfolding dot
 dot_value a b h k =
-    let m0 : slice_index a 0 * slice_index b 0 < 2 ^ 57 = below (slice_index a 0) (slice_index b 0) h.l0 k.l0 in
-    let m1 : slice_index a 1 * slice_index b 1 < 2 ^ 57 = below (slice_index a 1) (slice_index b 1) h.l1 k.l1 in
-    let m2 : slice_index a 2 * slice_index b 2 < 2 ^ 57 = below (slice_index a 2) (slice_index b 2) h.l2 k.l2 in
-    let m3 : slice_index a 3 * slice_index b 3 < 2 ^ 57 = below (slice_index a 3) (slice_index b 3) h.l3 k.l3 in
-    let m4 : slice_index a 4 * slice_index b 4 < 2 ^ 57 = below (slice_index a 4) (slice_index b 4) h.l4 k.l4 in
-    let is = sums (slice_index a 0 * slice_index b 0) (slice_index a 1 * slice_index b 1) (slice_index a 2 * slice_index b 2)
-    (slice_index a 3 * slice_index b 3) (slice_index a 4 * slice_index b 4) m0 m1 m2 m3 m4 in
-    (is, omega (arith, is, m0, m1, m2, m3, m4))
+    let sum = dotted (2 ^ 64) (2 ^ 28) (2 ^ 29) a b (omega arith) h k in
+    (sum.0, omega (arith, sum.0, sum.1))
 
 -- the product of two numbers by limbs
 expand : (a0 a1 a2 a3 a4 b0 b1 b2 b3 b4 c0 c1 c2 c3 c4 : ℕ)
