@@ -1,13 +1,13 @@
 -- Limbs that are read of bytes have the number of these without their highest bit, and limbs are written as the bytes of their
 -- number modulo 2^255 - 19.
 
-use Rattle.std.proofs.Common.{◌≡◌, ℕ, ◌+◌, ◌*◌, ◌/◌, ◌%◌, ◌^◌, ◌<◌, ◌++◌, zero, suc, List, [], ◌∷◌, refl, ap, ap₂, ◌∙◌, arith}
+use Rattle.std.proofs.Common.{◌≡◌, ℕ, ◌+◌, ◌*◌, ◌/◌, ◌%◌, ◌^◌, ◌<◌, ◌++◌, List, [], ◌∷◌, refl, ap, ap₂, ◌∙◌, arith}
 use Rattle.std.specs.Int.{w64, to_le_bytes}
 use Rattle.std.specs.Prelude.{bit_or, slice_index}
 use Rattle.sshsuite.specs.Bits.{bytes_of_words, number_of_32, word_at}
 use Rattle.sshsuite.specs.FieldElement.{add, canonical, decode, encode, none, packed}
-use Rattle.sshsuite.proofs.FieldLemmas.{AreTight, add_tight, below_tight, least, wider}
-use Rattle.sshsuite.proofs.LimbLemmas.{IsRadix, reduced_value}
+use Rattle.sshsuite.proofs.FieldLemmas.{AreTight, add_tight, below_tight, bounded, least, radix, wider}
+use Rattle.sshsuite.proofs.LimbLemmas.{reduced_value}
 use Rattle.sshsuite.proofs.WordLemmas.{AreWords, or_high}
 use Rattle.sshsuite.specs.FieldBytes.{bytes_of_number}
 use Rattle.sshsuite.specs.FieldValues.{AreBelow, field, value, weighed}
@@ -35,9 +35,6 @@ five_limbs w0 w1 w2 w3 l0 l1 l2 l3 l4 h e0 e1 e2 e3 e4 = omega arith
 
 least_of : (x y q : ℕ) → x + 2 ^ 255 * q ≡ y → x < 2 ^ 255 → x ≡ y % 2 ^ 255
 least_of x y q e h = omega arith
-
-bounded : (l0 l1 l2 l3 l4 : ℕ) → l0 < 2 ^ 51 → l1 < 2 ^ 51 → l2 < 2 ^ 51 → l3 < 2 ^ 51 → l4 < 2 ^ 51 → weighed l0 l1 l2 l3 l4 < 2 ^ 255
-bounded l0 l1 l2 l3 l4 h0 h1 h2 h3 h4 = omega arith
 
 pub decode_value : (bytes : List ℕ) → AreWords bytes → AreBelow (2 ^ 51) (decode bytes) × (value (decode bytes) ≡ number_of_32 bytes % 2 ^ 255)
 unfolding decode number_of_32
@@ -104,29 +101,8 @@ packed_value l h =
     words_of (packed l) (value l) b0 b1 b2 (four_words l0 l1 l2 l3 l4 _ _ _ _ h.l4 e0 e1 e2 e3)
 
 -- One subtraction of the modulus.
-settled : (v r s over top : ℕ) → v + 19 ≡ r + 2 ^ 255 * over → r < 2 ^ 255 → v + 19 * over ≡ s + 2 ^ 255 * top → s < 2 ^ 255 → v < 2 * field → s ≡ v % field
-settled v r s zero top e h f k low = omega arith
-settled v r s (suc zero) top e h f k low = omega arith
-settled v r s (suc (suc over)) top e h f k low = absurd (omega arith)
-
-chain : (l0 l1 l2 l3 l4 first q0 q1 q2 q3 q4 r0 r1 r2 r3 r4 : ℕ) → l0 + first ≡ 2 ^ 51 * q0 + r0 → l1 + q0 ≡ 2 ^ 51 * q1 + r1 → l2 + q1 ≡ 2 ^ 51 * q2 + r2
-    → l3 + q2 ≡ 2 ^ 51 * q3 + r3 → l4 + q3 ≡ 2 ^ 51 * q4 + r4 → weighed l0 l1 l2 l3 l4 + first ≡ weighed r0 r1 r2 r3 r4 + 2 ^ 255 * q4
-chain l0 l1 l2 l3 l4 first q0 q1 q2 q3 q4 r0 r1 r2 r3 r4 e0 e1 e2 e3 e4 = omega arith
-
 tight_value : (l0 l1 l2 l3 l4 : ℕ) → l0 < 2 ^ 52 → l1 < 2 ^ 51 → l2 < 2 ^ 51 → l3 < 2 ^ 51 → l4 < 2 ^ 51 → weighed l0 l1 l2 l3 l4 < 2 * field
 tight_value l0 l1 l2 l3 l4 h0 h1 h2 h3 h4 = omega arith
-
-radix : IsRadix (2 ^ 51) 19 (2 ^ 53) (2 ^ 255) field weighed
-radix = record {
-  eight = omega arith;
-  first = omega arith;
-  rest = least;
-  parted = λ x y h k. (omega arith, omega arith);
-  times = λ n h. (omega arith, omega arith);
-  chain = chain;
-  bounded = bounded;
-  settled = settled;
-}
 
 canonical_value : (l : List ℕ) → AreTight l → AreBelow (2 ^ 51) (canonical l) × (value (canonical l) ≡ value l % field)
 unfolding canonical

@@ -1,18 +1,12 @@
 -- The arithmetic of limbs is that of the field, where each limb of a factor is below 2^54 and of all else below 2^52: nothing is
 -- lost, and the number of the limbs is what it is to be modulo 2^255 - 19.
 
-use Rattle.std.proofs.Common.{◌≡◌, ℕ, ◌+◌, ◌*◌, ◌/◌, ◌%◌, ◌^◌, ◌<◌, ◌≤◌, List, [], ◌∷◌, sym, ap, ap₂, ◌∙◌, arith}
+use Rattle.std.proofs.Common.{◌≡◌, ℕ, ◌+◌, ◌*◌, ◌/◌, ◌%◌, ◌^◌, ◌<◌, ◌≤◌, List, [], ◌∷◌, zero, suc, refl, sym, ap, ap₂, ◌∙◌, arith}
 use Rattle.std.specs.Prelude.{slice_index}
 use Rattle.sshsuite.specs.FieldElement.{above, add, carried, carried_once, dot, less, limbs_of, loose_difference, loose_sum, mul, scaled, squared, sub, three, with_carry}
 use Rattle.sshsuite.specs.Limbs.{add64, add128, mul64, mul128}
 use Rattle.sshsuite.specs.FieldValues.{AreBelow, field, value, weighed}
-use Rattle.sshsuite.proofs.LimbLemmas.{at_places, below, dotted, moved, whole64}
-
--- one pass of carries
-pass : (c0 c1 c2 c3 c4 q0 q1 q2 q3 q4 r0 r1 r2 r3 r4 : ℕ) → c0 ≡ 2 ^ 51 * q0 + r0 → c1 + q0 ≡ 2 ^ 51 * q1 + r1 → c2 + q1 ≡ 2 ^ 51 * q2 + r2
-    → c3 + q2 ≡ 2 ^ 51 * q3 + r3 → c4 + q3 ≡ 2 ^ 51 * q4 + r4
-    → weighed c0 c1 c2 c3 c4 ≡ weighed r0 r1 r2 r3 r4 + (field + 19) * q4
-pass c0 c1 c2 c3 c4 q0 q1 q2 q3 q4 r0 r1 r2 r3 r4 e0 e1 e2 e3 e4 = omega arith
+use Rattle.sshsuite.proofs.LimbLemmas.{IsRadix, at_places, below, dotted, moved, passed}
 
 -- a sum that is taken modulo 2^128 and isn't more
 pub whole : (x y : ℕ) → x < 2 ^ 127 → y < 2 ^ 127 → add128 x y ≡ x + y
@@ -25,15 +19,40 @@ tight = 2251799813693440
 low51 : (x : ℕ) → x % 2 ^ 51 < tight
 low51 x = omega arith
 
-parts : (x : ℕ) → x ≡ 2 ^ 51 * (x / 2 ^ 51) + x % 2 ^ 51
-parts x = omega arith
-
 pub multiple : (x y q : ℕ) → x ≡ y + field * q → x % field ≡ y % field
 multiple x y q e = omega arith
 
-together : (v r0 r1 r2 r3 r4 q d0 h f0 last : ℕ) → v ≡ weighed r0 r1 r2 r3 r4 + (field + 19) * q → d0 ≡ r0 + 19 * q → d0 ≡ 2 ^ 51 * h + f0 → last ≡ r1 + h
-    → v ≡ weighed f0 last r2 r3 r4 + field * q
-together v r0 r1 r2 r3 r4 q d0 h f0 last e1 e2 e3 e4 = omega arith
+pub least : (x : ℕ) → x % 2 ^ 51 < 2 ^ 51
+least x = omega arith
+
+settled : (v r s over top : ℕ) → v + 19 ≡ r + 2 ^ 255 * over → r < 2 ^ 255 → v + 19 * over ≡ s + 2 ^ 255 * top → s < 2 ^ 255 → v < 2 * field → s ≡ v % field
+settled v r s zero top e h f k low = omega arith
+settled v r s (suc zero) top e h f k low = omega arith
+settled v r s (suc (suc over)) top e h f k low = absurd (omega arith)
+
+chain : (l0 l1 l2 l3 l4 first q0 q1 q2 q3 q4 r0 r1 r2 r3 r4 : ℕ) → l0 + first ≡ 2 ^ 51 * q0 + r0 → l1 + q0 ≡ 2 ^ 51 * q1 + r1 → l2 + q1 ≡ 2 ^ 51 * q2 + r2
+    → l3 + q2 ≡ 2 ^ 51 * q3 + r3 → l4 + q3 ≡ 2 ^ 51 * q4 + r4 → weighed l0 l1 l2 l3 l4 + first ≡ weighed r0 r1 r2 r3 r4 + 2 ^ 255 * q4
+chain l0 l1 l2 l3 l4 first q0 q1 q2 q3 q4 r0 r1 r2 r3 r4 e0 e1 e2 e3 e4 = omega arith
+
+pub bounded : (l0 l1 l2 l3 l4 : ℕ) → l0 < 2 ^ 51 → l1 < 2 ^ 51 → l2 < 2 ^ 51 → l3 < 2 ^ 51 → l4 < 2 ^ 51 → weighed l0 l1 l2 l3 l4 < 2 ^ 255
+bounded l0 l1 l2 l3 l4 h0 h1 h2 h3 h4 = omega arith
+
+pub radix : IsRadix (2 ^ 51) 19 (2 ^ 53) (2 ^ 255) field weighed
+radix = record {
+  eight = omega arith;
+  first = omega arith;
+  rest = least;
+  parted = λ x y h k. (omega arith, omega arith);
+  times = λ n h. (omega arith, omega arith);
+  chain = chain;
+  lowest = λ l0 l1 l2 l3 l4 first. omega arith;
+  beyond = refl;
+  bounded = bounded;
+  settled = settled;
+}
+
+together : (d0 d1 r1 r2 r3 r4 : ℕ) → d1 ≡ r1 + d0 / 2 ^ 51 → weighed (d0 % 2 ^ 51) d1 r2 r3 r4 ≡ weighed d0 r1 r2 r3 r4
+together d0 d1 r1 r2 r3 r4 e = omega arith
 
 -- a sum below 2^115 has a word above its lowest 51 bits
 above_is : (c : ℕ) → c < 2 ^ 115 → above c ≡ c / 2 ^ 51
@@ -82,13 +101,9 @@ module _ (c0 c1 c2 c3 c4 : ℕ) (h0 : c0 < 96 * 2 ^ 108) (h1 : c1 < 96 * 2 ^ 108
       let x0 : d0 ≡ c0 % 2 ^ 51 + 19 * (e4 / 2 ^ 51) = returned c0 e4 w4.low in
       let y0 : d0 < 2 ^ 64 = word (c0 % 2 ^ 51 + mul64 (above e4) 19) in
       let x1 = last_carry e1 d0 y0 in
-      let first_pass : weighed c0 c1 c2 c3 c4 ≡ weighed (c0 % 2 ^ 51) (e1 % 2 ^ 51) (e2 % 2 ^ 51) (e3 % 2 ^ 51) (e4 % 2 ^ 51) + (field + 19) * (e4 / 2 ^ 51)
-      = pass c0 c1 c2 c3 c4 (c0 / 2 ^ 51) (e1 / 2 ^ 51) (e2 / 2 ^ 51) (e3 / 2 ^ 51) (e4 / 2 ^ 51) (c0 % 2 ^ 51) (e1 % 2 ^ 51) (e2 % 2 ^ 51) (e3 % 2 ^ 51) (e4 % 2 ^ 51)
-      (parts c0) (sym w1.is ∙ parts e1) (sym w2.is ∙ parts e2) (sym w3.is ∙ parts e3) (sym w4.is ∙ parts e4) in
-      let all = together (weighed c0 c1 c2 c3 c4) (c0 % 2 ^ 51) (e1 % 2 ^ 51) (e2 % 2 ^ 51) (e3 % 2 ^ 51) (e4 % 2 ^ 51) (e4 / 2 ^ 51) d0 (d0 / 2 ^ 51) (d0 % 2 ^ 51) d1
-      first_pass x0 (parts d0) x1.0 in (
+      let all = passed (2 ^ 51) 19 (2 ^ 53) (2 ^ 255) field weighed radix c0 c1 c2 c3 c4 e1 e2 e3 e4 d0 w1.is w2.is w3.is w4.is x0 in (
         record { l0 = low51 d0; l1 = x1.1; l2 = low51 e2; l3 = low51 e3; l4 = low51 e4 },
-        sym (multiple (weighed c0 c1 c2 c3 c4) (weighed (d0 % 2 ^ 51) d1 (e2 % 2 ^ 51) (e3 % 2 ^ 51) (e4 % 2 ^ 51)) (e4 / 2 ^ 51) all),
+        ap (λ (n : ℕ). n % field) (together d0 d1 (e1 % 2 ^ 51) (e2 % 2 ^ 51) (e3 % 2 ^ 51) (e4 % 2 ^ 51) x1.0) ∙ all,
       )
 
 -- nineteen times 2^54
@@ -324,11 +339,11 @@ pub record AreTight (a : List ℕ) : Type 0 where
 pub below_tight : (a : List ℕ) → AreTight a → AreBelow (2 ^ 52) a
 below_tight a h = record { l0 = h.l0; l1 = omega (arith, h.l1); l2 = omega (arith, h.l2); l3 = omega (arith, h.l3); l4 = omega (arith, h.l4) }
 
-pub least : (x : ℕ) → x % 2 ^ 51 < 2 ^ 51
-least x = omega arith
+limb_carry : (c e : ℕ) → c < 2 ^ 56 → e < 2 ^ 57 → (add64 c (e / 2 ^ 51) ≡ c + e / 2 ^ 51) × (add64 c (e / 2 ^ 51) < 2 ^ 57)
+limb_carry c e h k = (omega arith, omega arith)
 
-lowered : (v r0 r1 r2 r3 r4 q d0 : ℕ) → v ≡ weighed r0 r1 r2 r3 r4 + (field + 19) * q → d0 ≡ r0 + 19 * q → v ≡ weighed d0 r1 r2 r3 r4 + field * q
-lowered v r0 r1 r2 r3 r4 q d0 e k = omega arith
+limb_returned : (c e : ℕ) → e < 2 ^ 57 → (add64 (c % 2 ^ 51) (mul64 (e / 2 ^ 51) 19) ≡ c % 2 ^ 51 + 19 * (e / 2 ^ 51)) × (add64 (c % 2 ^ 51) (mul64 (e / 2 ^ 51) 19) < 2 ^ 52)
+limb_returned c e h = (omega arith, omega arith)
 
 -- sums below 2^56 are carried by one pass
 module _ (c0 c1 c2 c3 c4 : ℕ) (h0 : c0 < 2 ^ 56) (h1 : c1 < 2 ^ 56) (h2 : c2 < 2 ^ 56) (h3 : c3 < 2 ^ 56) (h4 : c4 < 2 ^ 56) where
@@ -340,22 +355,13 @@ module _ (c0 c1 c2 c3 c4 : ℕ) (h0 : c0 < 2 ^ 56) (h1 : c1 < 2 ^ 56) (h2 : c2 <
       let e3 : ℕ = add64 c3 (e2 / 2 ^ 51) in
       let e4 : ℕ = add64 c4 (e3 / 2 ^ 51) in
       let d0 : ℕ = add64 (c0 % 2 ^ 51) (mul64 (e4 / 2 ^ 51) 19) in
-      let w1 : e1 ≡ c1 + c0 / 2 ^ 51 = whole64 c1 (c0 / 2 ^ 51) (omega (arith, h1)) (omega (arith, h0)) in
-      let b1 : e1 < 2 ^ 57 = omega (arith, w1, h0, h1) in
-      let w2 : e2 ≡ c2 + e1 / 2 ^ 51 = whole64 c2 (e1 / 2 ^ 51) (omega (arith, h2)) (omega (arith, b1)) in
-      let b2 : e2 < 2 ^ 57 = omega (arith, w2, h2, b1) in
-      let w3 : e3 ≡ c3 + e2 / 2 ^ 51 = whole64 c3 (e2 / 2 ^ 51) (omega (arith, h3)) (omega (arith, b2)) in
-      let b3 : e3 < 2 ^ 57 = omega (arith, w3, h3, b2) in
-      let w4 : e4 ≡ c4 + e3 / 2 ^ 51 = whole64 c4 (e3 / 2 ^ 51) (omega (arith, h4)) (omega (arith, b3)) in
-      let b4 : e4 < 2 ^ 57 = omega (arith, w4, h4, b3) in
-      let m : mul64 (e4 / 2 ^ 51) 19 ≡ 19 * (e4 / 2 ^ 51) = omega (arith, b4) in
-      let n : 19 * (e4 / 2 ^ 51) < 2 ^ 11 = omega (arith, b4) in
-      let x0 : d0 ≡ c0 % 2 ^ 51 + 19 * (e4 / 2 ^ 51) = whole64 (c0 % 2 ^ 51) (mul64 (e4 / 2 ^ 51) 19) (omega arith) (omega (arith, m, n)) ∙ ap (λ (k : ℕ). c0 % 2 ^ 51 + k) m in
-      let first_pass = pass c0 c1 c2 c3 c4 (c0 / 2 ^ 51) (e1 / 2 ^ 51) (e2 / 2 ^ 51) (e3 / 2 ^ 51) (e4 / 2 ^ 51) (c0 % 2 ^ 51) (e1 % 2 ^ 51) (e2 % 2 ^ 51) (e3 % 2 ^ 51) (e4 % 2 ^ 51)
-      (parts c0) (sym w1 ∙ parts e1) (sym w2 ∙ parts e2) (sym w3 ∙ parts e3) (sym w4 ∙ parts e4) in
-      let all = lowered (weighed c0 c1 c2 c3 c4) (c0 % 2 ^ 51) (e1 % 2 ^ 51) (e2 % 2 ^ 51) (e3 % 2 ^ 51) (e4 % 2 ^ 51) (e4 / 2 ^ 51) d0 first_pass x0 in (
-        record { l0 = omega (arith, x0, n); l1 = least e1; l2 = least e2; l3 = least e3; l4 = least e4 },
-        sym (multiple (weighed c0 c1 c2 c3 c4) (weighed d0 (e1 % 2 ^ 51) (e2 % 2 ^ 51) (e3 % 2 ^ 51) (e4 % 2 ^ 51)) (e4 / 2 ^ 51) all),
+      let w1 = limb_carry c1 c0 h1 (omega (arith, h0)) in
+      let w2 = limb_carry c2 e1 h2 w1.1 in
+      let w3 = limb_carry c3 e2 h3 w2.1 in
+      let w4 = limb_carry c4 e3 h4 w3.1 in
+      let x0 = limb_returned c0 e4 w4.1 in (
+        record { l0 = x0.1; l1 = least e1; l2 = least e2; l3 = least e3; l4 = least e4 },
+        passed (2 ^ 51) 19 (2 ^ 53) (2 ^ 255) field weighed radix c0 c1 c2 c3 c4 e1 e2 e3 e4 d0 w1.0 w2.0 w3.0 w4.0 x0.0,
       )
 
 limbs_added : (m n top x y : ℕ) → m + n ≤ top → top ≤ 2 ^ 54 → x < m → y < n → (add64 x y ≡ x + y) × (add64 x y < top)

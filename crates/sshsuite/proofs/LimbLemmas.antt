@@ -1,7 +1,7 @@
 -- The five sums of a product of numbers of five limbs, and one subtraction of the modulus.
 
 use Rattle.std.proofs.Common.{◌≡◌, ℕ, ◌+◌, ◌*◌, ◌/◌, ◌%◌, ◌^◌, ◌<◌, ◌≤◌, List, [], ◌∷◌, lt_of_lt_of_le, mod-eq_of_lt, refl, sym, ap, ◌∙◌, arith}
-use Rattle.std.proofs.Math.Nat.{add-mod, mul-le-mul_left}
+use Rattle.std.proofs.Math.Nat.{add-mod, add-mul, add-mul-mod_self_left, add-zero, div-add-mod, mul-le-mul_left}
 use Rattle.std.specs.Prelude.{slice_index}
 use Rattle.sshsuite.specs.FieldValues.{AreBelow}
 use Rattle.sshsuite.specs.Limbs.{add64, mul64, reduced_once}
@@ -94,10 +94,26 @@ pub record IsRadix (radix excess most span modulus : ℕ) (weighed : ℕ → ℕ
   pub times : (n : ℕ) → n < 8 → (mul64 n excess ≡ excess * n) × (mul64 n excess < most)
   pub chain : (l0 l1 l2 l3 l4 first q0 q1 q2 q3 q4 r0 r1 r2 r3 r4 : ℕ) → l0 + first ≡ radix * q0 + r0 → l1 + q0 ≡ radix * q1 + r1 → l2 + q1 ≡ radix * q2 + r2
       → l3 + q2 ≡ radix * q3 + r3 → l4 + q3 ≡ radix * q4 + r4 → weighed l0 l1 l2 l3 l4 + first ≡ weighed r0 r1 r2 r3 r4 + span * q4
+  pub lowest : (l0 l1 l2 l3 l4 first : ℕ) → weighed (l0 + first) l1 l2 l3 l4 ≡ weighed l0 l1 l2 l3 l4 + first
+  pub beyond : span ≡ modulus + excess
   pub bounded : (l0 l1 l2 l3 l4 : ℕ) → l0 < radix → l1 < radix → l2 < radix → l3 < radix → l4 < radix → weighed l0 l1 l2 l3 l4 < span
   pub settled : (v r s over top : ℕ) → v + excess ≡ r + span * over → r < span → v + excess * over ≡ s + span * top → s < span → v < 2 * modulus → s ≡ v % modulus
 
 module _ (radix excess most span modulus : ℕ) (weighed : ℕ → ℕ → ℕ → ℕ → ℕ → ℕ) (is : IsRadix radix excess most span modulus weighed) where
+  -- one pass of carries, of which what is carried out of the highest limb comes back at the lowest
+  pub passed : (c0 c1 c2 c3 c4 e1 e2 e3 e4 d0 : ℕ) → e1 ≡ c1 + c0 / radix → e2 ≡ c2 + e1 / radix → e3 ≡ c3 + e2 / radix → e4 ≡ c4 + e3 / radix
+      → d0 ≡ c0 % radix + excess * (e4 / radix) → weighed d0 (e1 % radix) (e2 % radix) (e3 % radix) (e4 % radix) % modulus ≡ weighed c0 c1 c2 c3 c4 % modulus
+  passed c0 c1 c2 c3 c4 e1 e2 e3 e4 d0 w1 w2 w3 w4 x0 =
+      let parts : (x : ℕ) → x ≡ radix * (x / radix) + x % radix = λ x. sym (div-add-mod x radix) in
+      let low : ℕ = weighed (c0 % radix) (e1 % radix) (e2 % radix) (e3 % radix) (e4 % radix) in
+      let all : weighed c0 c1 c2 c3 c4 + 0 ≡ low + span * (e4 / radix) = is.chain c0 c1 c2 c3 c4 0 (c0 / radix) (e1 / radix) (e2 / radix) (e3 / radix) (e4 / radix)
+      (c0 % radix) (e1 % radix) (e2 % radix) (e3 % radix) (e4 % radix)
+      (add-zero c0 ∙ parts c0) (sym w1 ∙ parts e1) (sym w2 ∙ parts e2) (sym w3 ∙ parts e3) (sym w4 ∙ parts e4) in
+      let first = ap (λ (n : ℕ). weighed n (e1 % radix) (e2 % radix) (e3 % radix) (e4 % radix)) x0 ∙ is.lowest (c0 % radix) (e1 % radix) (e2 % radix) (e3 % radix) (e4 % radix) (excess * (e4 / radix)) in
+      let split : span * (e4 / radix) ≡ modulus * (e4 / radix) + excess * (e4 / radix) = ap (λ (n : ℕ). n * (e4 / radix)) is.beyond ∙ add-mul modulus excess (e4 / radix) in
+      let whole : weighed c0 c1 c2 c3 c4 ≡ weighed d0 (e1 % radix) (e2 % radix) (e3 % radix) (e4 % radix) + modulus * (e4 / radix) = omega (arith, all, first, split) in
+      sym (ap (λ (n : ℕ). n % modulus) whole ∙ add-mul-mod_self_left _ modulus (e4 / radix))
+
   pub reduced_value : (l : List ℕ) → AreBelow most l → by_limbs weighed l < 2 * modulus
       → AreBelow radix (reduced_once radix excess l) × (by_limbs weighed (reduced_once radix excess l) ≡ by_limbs weighed l % modulus)
   unfolding reduced_once

@@ -11,7 +11,7 @@ use Rattle.sshsuite.specs.Bits.{word_at}
 use Rattle.sshsuite.specs.FieldValues.{AreBelow}
 use Rattle.sshsuite.specs.Limbs.{add64, mul64}
 use Rattle.sshsuite.specs.Poly1305.{accumulated, add, block_at, block_limbs, canonical, carried, clamped_r, dot, limbs_of, mul, packed, s_of, sum_to, tag_of}
-use Rattle.sshsuite.proofs.LimbLemmas.{IsRadix, at_places, dotted, folded, reduced_value, whole64}
+use Rattle.sshsuite.proofs.LimbLemmas.{IsRadix, at_places, dotted, folded, passed, reduced_value, whole64}
 use Rattle.sshsuite.proofs.WordLemmas.{or_high, word_low, zero_bytes}
 use Rattle.sshsuite.specs.PolyNumbers.{accumulator, block_number, mac, modulus, number_of_16, r_number, s_number}
 
@@ -60,13 +60,43 @@ topped_limbs low high h k =
     )
 
 -- Carries.
-parts : (x : ℕ) → x ≡ 2 ^ 26 * (x / 2 ^ 26) + x % 2 ^ 26
-parts x = omega arith
+settled : (v r s over top : ℕ) → v + 5 ≡ r + 2 ^ 130 * over → r < 2 ^ 130 → v + 5 * over ≡ s + 2 ^ 130 * top → s < 2 ^ 130 → v < 2 * modulus → s ≡ v % modulus
+settled v r s zero top e h f k low = omega arith
+settled v r s (suc zero) top e h f k low = omega arith
+settled v r s (suc (suc over)) top e h f k low = absurd (omega arith)
 
-pass : (c0 c1 c2 c3 c4 q0 q1 q2 q3 q4 r0 r1 r2 r3 r4 d0 f1 : ℕ) → c0 ≡ 2 ^ 26 * q0 + r0 → c1 + q0 ≡ 2 ^ 26 * q1 + r1 → c2 + q1 ≡ 2 ^ 26 * q2 + r2
-    → c3 + q2 ≡ 2 ^ 26 * q3 + r3 → c4 + q3 ≡ 2 ^ 26 * q4 + r4 → d0 ≡ r0 + 5 * q4 → f1 ≡ r1 + d0 / 2 ^ 26
-    → weighed c0 c1 c2 c3 c4 ≡ weighed (d0 % 2 ^ 26) f1 r2 r3 r4 + modulus * q4
-pass c0 c1 c2 c3 c4 q0 q1 q2 q3 q4 r0 r1 r2 r3 r4 d0 f1 e0 e1 e2 e3 e4 e5 e6 = omega arith
+chain : (l0 l1 l2 l3 l4 first q0 q1 q2 q3 q4 r0 r1 r2 r3 r4 : ℕ) → l0 + first ≡ 2 ^ 26 * q0 + r0 → l1 + q0 ≡ 2 ^ 26 * q1 + r1 → l2 + q1 ≡ 2 ^ 26 * q2 + r2
+    → l3 + q2 ≡ 2 ^ 26 * q3 + r3 → l4 + q3 ≡ 2 ^ 26 * q4 + r4 → weighed l0 l1 l2 l3 l4 + first ≡ weighed r0 r1 r2 r3 r4 + 2 ^ 130 * q4
+chain l0 l1 l2 l3 l4 first q0 q1 q2 q3 q4 r0 r1 r2 r3 r4 e0 e1 e2 e3 e4 = omega arith
+
+bounded : (l0 l1 l2 l3 l4 : ℕ) → l0 < 2 ^ 26 → l1 < 2 ^ 26 → l2 < 2 ^ 26 → l3 < 2 ^ 26 → l4 < 2 ^ 26 → weighed l0 l1 l2 l3 l4 < 2 ^ 130
+bounded l0 l1 l2 l3 l4 h0 h1 h2 h3 h4 = omega arith
+
+radix : IsRadix (2 ^ 26) 5 (2 ^ 28) (2 ^ 130) modulus weighed
+radix = record {
+  eight = omega arith;
+  first = omega arith;
+  rest = low26;
+  parted = λ x y h k. (omega arith, omega arith);
+  times = λ n h. (omega arith, omega arith);
+  chain = chain;
+  lowest = λ l0 l1 l2 l3 l4 first. omega arith;
+  beyond = refl;
+  bounded = bounded;
+  settled = settled;
+}
+
+limb_carry : (c e : ℕ) → c < 2 ^ 61 → e < 2 ^ 62 → (add64 c (e / 2 ^ 26) ≡ c + e / 2 ^ 26) × (add64 c (e / 2 ^ 26) < 2 ^ 62)
+limb_carry c e h k = (omega arith, omega arith)
+
+returned : (c e : ℕ) → e < 2 ^ 62 → (add64 (c % 2 ^ 26) (mul64 (e / 2 ^ 26) 5) ≡ c % 2 ^ 26 + 5 * (e / 2 ^ 26)) × (add64 (c % 2 ^ 26) (mul64 (e / 2 ^ 26) 5) < 2 ^ 39)
+returned c e h = (omega arith, omega arith)
+
+last_carry : (e d : ℕ) → d < 2 ^ 39 → (add64 (e % 2 ^ 26) (d / 2 ^ 26) ≡ e % 2 ^ 26 + d / 2 ^ 26) × (add64 (e % 2 ^ 26) (d / 2 ^ 26) ≤ 2 ^ 26 + 2 ^ 13)
+last_carry e d h = (omega arith, omega arith)
+
+together : (d0 d1 r1 r2 r3 r4 : ℕ) → d1 ≡ r1 + d0 / 2 ^ 26 → weighed (d0 % 2 ^ 26) d1 r2 r3 r4 ≡ weighed d0 r1 r2 r3 r4
+together d0 d1 r1 r2 r3 r4 e = omega arith
 
 multiple : (x y q : ℕ) → x ≡ y + modulus * q → x % modulus ≡ y % modulus
 multiple x y q e = omega arith
@@ -90,24 +120,15 @@ module _ (a : List ℕ) (h : AreBelow (2 ^ 61) a) where
       let e4 : ℕ = add64 (slice_index a 4) (e3 / 2 ^ 26) in
       let d0 : ℕ = add64 (c0 % 2 ^ 26) (mul64 (e4 / 2 ^ 26) 5) in
       let f1 : ℕ = add64 (e1 % 2 ^ 26) (d0 / 2 ^ 26) in
-      let w1 : e1 ≡ slice_index a 1 + c0 / 2 ^ 26 = whole64 (slice_index a 1) (c0 / 2 ^ 26) (omega (arith, h.l1)) (omega (arith, h.l0)) in
-      let b1 : e1 < 2 ^ 62 = omega (arith, w1, h.l0, h.l1) in
-      let w2 : e2 ≡ slice_index a 2 + e1 / 2 ^ 26 = whole64 (slice_index a 2) (e1 / 2 ^ 26) (omega (arith, h.l2)) (omega (arith, b1)) in
-      let b2 : e2 < 2 ^ 62 = omega (arith, w2, h.l2, b1) in
-      let w3 : e3 ≡ slice_index a 3 + e2 / 2 ^ 26 = whole64 (slice_index a 3) (e2 / 2 ^ 26) (omega (arith, h.l3)) (omega (arith, b2)) in
-      let b3 : e3 < 2 ^ 62 = omega (arith, w3, h.l3, b2) in
-      let w4 : e4 ≡ slice_index a 4 + e3 / 2 ^ 26 = whole64 (slice_index a 4) (e3 / 2 ^ 26) (omega (arith, h.l4)) (omega (arith, b3)) in
-      let b4 : e4 < 2 ^ 62 = omega (arith, w4, h.l4, b3) in
-      let m : mul64 (e4 / 2 ^ 26) 5 ≡ 5 * (e4 / 2 ^ 26) = omega (arith, b4) in
-      let n : 5 * (e4 / 2 ^ 26) < 2 ^ 39 - 2 ^ 26 = omega (arith, b4) in
-      let x0 : d0 ≡ c0 % 2 ^ 26 + 5 * (e4 / 2 ^ 26) = whole64 (c0 % 2 ^ 26) (mul64 (e4 / 2 ^ 26) 5) (omega arith) (omega (arith, m, n)) ∙ ap (λ (k : ℕ). c0 % 2 ^ 26 + k) m in
-      let y0 : d0 < 2 ^ 39 = omega (arith, x0, n) in
-      let x1 : f1 ≡ e1 % 2 ^ 26 + d0 / 2 ^ 26 = whole64 (e1 % 2 ^ 26) (d0 / 2 ^ 26) (omega arith) (omega (arith, y0)) in
-      let all = pass c0 (slice_index a 1) (slice_index a 2) (slice_index a 3) (slice_index a 4) (c0 / 2 ^ 26) (e1 / 2 ^ 26) (e2 / 2 ^ 26) (e3 / 2 ^ 26) (e4 / 2 ^ 26)
-      (c0 % 2 ^ 26) (e1 % 2 ^ 26) (e2 % 2 ^ 26) (e3 % 2 ^ 26) (e4 % 2 ^ 26) d0 f1
-      (parts c0) (sym w1 ∙ parts e1) (sym w2 ∙ parts e2) (sym w3 ∙ parts e3) (sym w4 ∙ parts e4) x0 x1 in (
-        record { l0 = low26 d0; l1 = omega (arith, x1, y0); l2 = low26 e2; l3 = low26 e3; l4 = low26 e4 },
-        sym (multiple (value a) (weighed (d0 % 2 ^ 26) f1 (e2 % 2 ^ 26) (e3 % 2 ^ 26) (e4 % 2 ^ 26)) (e4 / 2 ^ 26) all),
+      let w1 = limb_carry (slice_index a 1) c0 h.l1 (omega (arith, h.l0)) in
+      let w2 = limb_carry (slice_index a 2) e1 h.l2 w1.1 in
+      let w3 = limb_carry (slice_index a 3) e2 h.l3 w2.1 in
+      let w4 = limb_carry (slice_index a 4) e3 h.l4 w3.1 in
+      let x0 = returned c0 e4 w4.1 in
+      let x1 = last_carry e1 d0 x0.1 in
+      let all = passed (2 ^ 26) 5 (2 ^ 28) (2 ^ 130) modulus weighed radix c0 (slice_index a 1) (slice_index a 2) (slice_index a 3) (slice_index a 4) e1 e2 e3 e4 d0 w1.0 w2.0 w3.0 w4.0 x0.0 in (
+        record { l0 = low26 d0; l1 = x1.1; l2 = low26 e2; l3 = low26 e3; l4 = low26 e4 },
+        ap (λ (n : ℕ). n % modulus) (together d0 f1 (e1 % 2 ^ 26) (e2 % 2 ^ 26) (e3 % 2 ^ 26) (e4 % 2 ^ 26) x1.0) ∙ all,
       )
 
 -- Products.
@@ -231,32 +252,8 @@ r_value key =
     (omega (arith, and_le_r (word_at key 0) 0x0ffffffc0fffffff)) (omega (arith, and_le_r (word_at key 8) 0x0ffffffc0ffffffc))
 
 -- The last subtraction.
-settled : (v r s over top : ℕ) → v + 5 ≡ r + 2 ^ 130 * over → r < 2 ^ 130 → v + 5 * over ≡ s + 2 ^ 130 * top → s < 2 ^ 130 → v < 2 * modulus → s ≡ v % modulus
-settled v r s zero top e h f k low = omega arith
-settled v r s (suc zero) top e h f k low = omega arith
-settled v r s (suc (suc over)) top e h f k low = absurd (omega arith)
-
-chain : (l0 l1 l2 l3 l4 first q0 q1 q2 q3 q4 r0 r1 r2 r3 r4 : ℕ) → l0 + first ≡ 2 ^ 26 * q0 + r0 → l1 + q0 ≡ 2 ^ 26 * q1 + r1 → l2 + q1 ≡ 2 ^ 26 * q2 + r2
-    → l3 + q2 ≡ 2 ^ 26 * q3 + r3 → l4 + q3 ≡ 2 ^ 26 * q4 + r4 → weighed l0 l1 l2 l3 l4 + first ≡ weighed r0 r1 r2 r3 r4 + 2 ^ 130 * q4
-chain l0 l1 l2 l3 l4 first q0 q1 q2 q3 q4 r0 r1 r2 r3 r4 e0 e1 e2 e3 e4 = omega arith
-
-bounded : (l0 l1 l2 l3 l4 : ℕ) → l0 < 2 ^ 26 → l1 < 2 ^ 26 → l2 < 2 ^ 26 → l3 < 2 ^ 26 → l4 < 2 ^ 26 → weighed l0 l1 l2 l3 l4 < 2 ^ 130
-bounded l0 l1 l2 l3 l4 h0 h1 h2 h3 h4 = omega arith
-
 carried_low : (l0 l1 l2 l3 l4 : ℕ) → l0 < 2 ^ 26 → l1 ≤ 2 ^ 26 + 2 ^ 13 → l2 < 2 ^ 26 → l3 < 2 ^ 26 → l4 < 2 ^ 26 → weighed l0 l1 l2 l3 l4 < 2 * modulus
 carried_low l0 l1 l2 l3 l4 h0 h1 h2 h3 h4 = omega arith
-
-radix : IsRadix (2 ^ 26) 5 (2 ^ 28) (2 ^ 130) modulus weighed
-radix = record {
-  eight = omega arith;
-  first = omega arith;
-  rest = low26;
-  parted = λ x y h k. (omega arith, omega arith);
-  times = λ n h. (omega arith, omega arith);
-  chain = chain;
-  bounded = bounded;
-  settled = settled;
-}
 
 canonical_value : (l : List ℕ) → AreCarried (2 ^ 26 + 2 ^ 13) l → AreBelow (2 ^ 26) (canonical l) × (value (canonical l) ≡ value l % modulus)
 unfolding canonical
