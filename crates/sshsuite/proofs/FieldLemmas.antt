@@ -6,7 +6,7 @@ use Rattle.std.specs.Prelude.{slice_index}
 use Rattle.sshsuite.specs.FieldElement.{above, add, carried, carried_once, dot, less, limbs_of, loose_difference, loose_sum, mul, scaled, squared, sub, three, with_carry}
 use Rattle.sshsuite.specs.Limbs.{add64, add128, mul64, mul128}
 use Rattle.sshsuite.specs.FieldValues.{AreBelow, field, value, weighed}
-use Rattle.sshsuite.proofs.LimbLemmas.{IsRadix, at_places, below, dotted, moved, passed}
+use Rattle.sshsuite.proofs.LimbLemmas.{IsRadix, at_places, below, dotted, moved, passed, times_small, wider}
 
 -- a sum that is taken modulo 2^128 and isn't more
 pub whole : (x y : ℕ) → x < 2 ^ 127 → y < 2 ^ 127 → add128 x y ≡ x + y
@@ -142,43 +142,35 @@ mul_loose a b h k =
     let b2 : ℕ = slice_index b 2 in
     let b3 : ℕ = slice_index b 3 in
     let b4 : ℕ = slice_index b 4 in
-    let k0 : b0 < folded_bound = omega (arith, k.l0) in
-    let k1 : b1 < folded_bound = omega (arith, k.l1) in
-    let k2 : b2 < folded_bound = omega (arith, k.l2) in
-    let k3 : b3 < folded_bound = omega (arith, k.l3) in
-    let k4 : b4 < folded_bound = omega (arith, k.l4) in
+    let l = wider (2 ^ 54) folded_bound b (omega arith) k in
     let s1 : ℕ = mul64 b1 19 in
-    let w1 : s1 ≡ 19 * b1 = omega (arith, k.l1) in
-    let z1 : s1 < folded_bound = omega (arith, w1, k.l1) in
+    let w1 = times_small 19 (2 ^ 54) folded_bound b1 (omega arith) (omega arith) (omega arith) k.l1 in
     let s2 : ℕ = mul64 b2 19 in
-    let w2 : s2 ≡ 19 * b2 = omega (arith, k.l2) in
-    let z2 : s2 < folded_bound = omega (arith, w2, k.l2) in
+    let w2 = times_small 19 (2 ^ 54) folded_bound b2 (omega arith) (omega arith) (omega arith) k.l2 in
     let s3 : ℕ = mul64 b3 19 in
-    let w3 : s3 ≡ 19 * b3 = omega (arith, k.l3) in
-    let z3 : s3 < folded_bound = omega (arith, w3, k.l3) in
+    let w3 = times_small 19 (2 ^ 54) folded_bound b3 (omega arith) (omega arith) (omega arith) k.l3 in
     let s4 : ℕ = mul64 b4 19 in
-    let w4 : s4 ≡ 19 * b4 = omega (arith, k.l4) in
-    let z4 : s4 < folded_bound = omega (arith, w4, k.l4) in
+    let w4 = times_small 19 (2 ^ 54) folded_bound b4 (omega arith) (omega arith) (omega arith) k.l4 in
     let f0 = dot_value (a3 ∷ a2 ∷ a1 ∷ a0 ∷ a4 ∷ []) (s2 ∷ s3 ∷ s4 ∷ b0 ∷ s1 ∷ [])
-    (record { l0 = h.l3; l1 = h.l2; l2 = h.l1; l3 = h.l0; l4 = h.l4 }) (record { l0 = z2; l1 = z3; l2 = z4; l3 = k0; l4 = z1 }) in
+    (record { l0 = h.l3; l1 = h.l2; l2 = h.l1; l3 = h.l0; l4 = h.l4 }) (record { l0 = w2.1; l1 = w3.1; l2 = w4.1; l3 = l.l0; l4 = w1.1 }) in
     let f1 = dot_value (a4 ∷ a3 ∷ a2 ∷ a1 ∷ a0 ∷ []) (s2 ∷ s3 ∷ s4 ∷ b0 ∷ b1 ∷ [])
-    (record { l0 = h.l4; l1 = h.l3; l2 = h.l2; l3 = h.l1; l4 = h.l0 }) (record { l0 = z2; l1 = z3; l2 = z4; l3 = k0; l4 = k1 }) in
+    (record { l0 = h.l4; l1 = h.l3; l2 = h.l2; l3 = h.l1; l4 = h.l0 }) (record { l0 = w2.1; l1 = w3.1; l2 = w4.1; l3 = l.l0; l4 = l.l1 }) in
     let f2 = dot_value (a0 ∷ a4 ∷ a3 ∷ a2 ∷ a1 ∷ []) (b2 ∷ s3 ∷ s4 ∷ b0 ∷ b1 ∷ [])
-    (record { l0 = h.l0; l1 = h.l4; l2 = h.l3; l3 = h.l2; l4 = h.l1 }) (record { l0 = k2; l1 = z3; l2 = z4; l3 = k0; l4 = k1 }) in
+    (record { l0 = h.l0; l1 = h.l4; l2 = h.l3; l3 = h.l2; l4 = h.l1 }) (record { l0 = l.l2; l1 = w3.1; l2 = w4.1; l3 = l.l0; l4 = l.l1 }) in
     let f3 = dot_value (a1 ∷ a0 ∷ a4 ∷ a3 ∷ a2 ∷ []) (b2 ∷ b3 ∷ s4 ∷ b0 ∷ b1 ∷ [])
-    (record { l0 = h.l1; l1 = h.l0; l2 = h.l4; l3 = h.l3; l4 = h.l2 }) (record { l0 = k2; l1 = k3; l2 = z4; l3 = k0; l4 = k1 }) in
+    (record { l0 = h.l1; l1 = h.l0; l2 = h.l4; l3 = h.l3; l4 = h.l2 }) (record { l0 = l.l2; l1 = l.l3; l2 = w4.1; l3 = l.l0; l4 = l.l1 }) in
     let f4 = dot_value (a2 ∷ a1 ∷ a0 ∷ a4 ∷ a3 ∷ []) (b2 ∷ b3 ∷ b4 ∷ b0 ∷ b1 ∷ [])
-    (record { l0 = h.l2; l1 = h.l1; l2 = h.l0; l3 = h.l4; l4 = h.l3 }) (record { l0 = k2; l1 = k3; l2 = k4; l3 = k0; l4 = k1 }) in
-    let p14 = moved 19 a1 b4 s4 w4 in
-    let p23 = moved 19 a2 b3 s3 w3 in
-    let p24 = moved 19 a2 b4 s4 w4 in
-    let p32 = moved 19 a3 b2 s2 w2 in
-    let p33 = moved 19 a3 b3 s3 w3 in
-    let p34 = moved 19 a3 b4 s4 w4 in
-    let p41 = moved 19 a4 b1 s1 w1 in
-    let p42 = moved 19 a4 b2 s2 w2 in
-    let p43 = moved 19 a4 b3 s3 w3 in
-    let p44 = moved 19 a4 b4 s4 w4 in
+    (record { l0 = h.l2; l1 = h.l1; l2 = h.l0; l3 = h.l4; l4 = h.l3 }) (record { l0 = l.l2; l1 = l.l3; l2 = l.l4; l3 = l.l0; l4 = l.l1 }) in
+    let p14 = moved 19 a1 b4 s4 w4.0 in
+    let p23 = moved 19 a2 b3 s3 w3.0 in
+    let p24 = moved 19 a2 b4 s4 w4.0 in
+    let p32 = moved 19 a3 b2 s2 w2.0 in
+    let p33 = moved 19 a3 b3 s3 w3.0 in
+    let p34 = moved 19 a3 b4 s4 w4.0 in
+    let p41 = moved 19 a4 b1 s1 w1.0 in
+    let p42 = moved 19 a4 b2 s2 w2.0 in
+    let p43 = moved 19 a4 b3 s3 w3.0 in
+    let p44 = moved 19 a4 b4 s4 w4.0 in
     let c0 : ℕ = dot (a3 ∷ a2 ∷ a1 ∷ a0 ∷ a4 ∷ []) (s2 ∷ s3 ∷ s4 ∷ b0 ∷ s1 ∷ []) in
     let g0 : c0 ≡ a0 * b0 + 19 * (a1 * b4) + 19 * (a2 * b3) + 19 * (a3 * b2) + 19 * (a4 * b1) = omega (arith, f0.0, p14, p23, p32, p41) in
     let c1 : ℕ = dot (a4 ∷ a3 ∷ a2 ∷ a1 ∷ a0 ∷ []) (s2 ∷ s3 ∷ s4 ∷ b0 ∷ b1 ∷ []) in
@@ -198,10 +190,6 @@ mul_loose a b h k =
     let out = carried_value c0 c1 c2 c3 c4 f0.1 f1.1 f2.1 f3.1 n4 in
     let all = expand a0 a1 a2 a3 a4 b0 b1 b2 b3 b4 c0 c1 c2 c3 c4 g0 g1 g2 g3 g4 in
     (out.0, out.1 ∙ sym (multiple (value a * value b) (weighed c0 c1 c2 c3 c4) (weighed (a1 * b4 + a2 * b3 + a3 * b2 + a4 * b1) (a2 * b4 + a3 * b3 + a4 * b2) (a3 * b4 + a4 * b3) (a4 * b4) 0) all))
-
--- limbs below a bound are below a higher one
-pub wider : (m n : ℕ) (a : List ℕ) → m ≤ n → AreBelow m a → AreBelow n a
-wider m n a h k = record { l0 = omega (arith, k.l0); l1 = omega (arith, k.l1); l2 = omega (arith, k.l2); l3 = omega (arith, k.l3); l4 = omega (arith, k.l4) }
 
 pub mul_value : (a b : List ℕ) → AreBelow (2 ^ 52) a → AreBelow (2 ^ 52) b
     → AreBelow (2 ^ 52) (mul a b) × (value (mul a b) % field ≡ value a * value b % field)
@@ -228,55 +216,49 @@ square_loose a h =
     let a3 : ℕ = slice_index a 3 in
     let a4 : ℕ = slice_index a 4 in
     let t0 : ℕ = mul64 a0 2 in
-    let u0 : t0 ≡ 2 * a0 = omega (arith, h.l0) in
-    let d0 : t0 < 2 ^ 55 = omega (arith, u0, h.l0) in
+    let u0 = times_small 2 (2 ^ 54) (2 ^ 55) a0 (omega arith) (omega arith) (omega arith) h.l0 in
     let t1 : ℕ = mul64 a1 2 in
-    let u1 : t1 ≡ 2 * a1 = omega (arith, h.l1) in
-    let d1 : t1 < 2 ^ 55 = omega (arith, u1, h.l1) in
+    let u1 = times_small 2 (2 ^ 54) (2 ^ 55) a1 (omega arith) (omega arith) (omega arith) h.l1 in
     let t2 : ℕ = mul64 a2 2 in
-    let u2 : t2 ≡ 2 * a2 = omega (arith, h.l2) in
-    let d2 : t2 < 2 ^ 55 = omega (arith, u2, h.l2) in
+    let u2 = times_small 2 (2 ^ 54) (2 ^ 55) a2 (omega arith) (omega arith) (omega arith) h.l2 in
     let s3 : ℕ = mul64 a3 19 in
-    let w3 : s3 ≡ 19 * a3 = omega (arith, h.l3) in
-    let z3 : s3 < 19 * 2 ^ 54 = omega (arith, w3, h.l3) in
+    let w3 = times_small 19 (2 ^ 54) (19 * 2 ^ 54) a3 (omega arith) (omega arith) (omega arith) h.l3 in
     let s4 : ℕ = mul64 a4 19 in
-    let w4 : s4 ≡ 19 * a4 = omega (arith, h.l4) in
-    let z4 : s4 < 19 * 2 ^ 54 = omega (arith, w4, h.l4) in
+    let w4 = times_small 19 (2 ^ 54) (19 * 2 ^ 54) a4 (omega arith) (omega arith) (omega arith) h.l4 in
     let r4 : ℕ = mul64 a4 38 in
-    let v4 : r4 ≡ 38 * a4 = omega (arith, h.l4) in
-    let y4 : r4 < 38 * 2 ^ 54 = omega (arith, v4, h.l4) in
+    let v4 = times_small 38 (2 ^ 54) (38 * 2 ^ 54) a4 (omega arith) (omega arith) (omega arith) h.l4 in
     let m00 : a0 * a0 < 2 ^ 108 = below a0 a0 (2 ^ 54) (2 ^ 54) h.l0 h.l0 in
-    let m14 : a1 * r4 < 38 * 2 ^ 108 = below a1 r4 (2 ^ 54) (38 * 2 ^ 54) h.l1 y4 in
-    let m23 : t2 * s3 < 38 * 2 ^ 108 = below t2 s3 (2 ^ 55) (19 * 2 ^ 54) d2 z3 in
-    let m01 : t0 * a1 < 2 ^ 109 = below t0 a1 (2 ^ 55) (2 ^ 54) d0 h.l1 in
-    let m24 : a2 * r4 < 38 * 2 ^ 108 = below a2 r4 (2 ^ 54) (38 * 2 ^ 54) h.l2 y4 in
-    let m33 : a3 * s3 < 19 * 2 ^ 108 = below a3 s3 (2 ^ 54) (19 * 2 ^ 54) h.l3 z3 in
-    let m02 : t0 * a2 < 2 ^ 109 = below t0 a2 (2 ^ 55) (2 ^ 54) d0 h.l2 in
+    let m14 : a1 * r4 < 38 * 2 ^ 108 = below a1 r4 (2 ^ 54) (38 * 2 ^ 54) h.l1 v4.1 in
+    let m23 : t2 * s3 < 38 * 2 ^ 108 = below t2 s3 (2 ^ 55) (19 * 2 ^ 54) u2.1 w3.1 in
+    let m01 : t0 * a1 < 2 ^ 109 = below t0 a1 (2 ^ 55) (2 ^ 54) u0.1 h.l1 in
+    let m24 : a2 * r4 < 38 * 2 ^ 108 = below a2 r4 (2 ^ 54) (38 * 2 ^ 54) h.l2 v4.1 in
+    let m33 : a3 * s3 < 19 * 2 ^ 108 = below a3 s3 (2 ^ 54) (19 * 2 ^ 54) h.l3 w3.1 in
+    let m02 : t0 * a2 < 2 ^ 109 = below t0 a2 (2 ^ 55) (2 ^ 54) u0.1 h.l2 in
     let m11 : a1 * a1 < 2 ^ 108 = below a1 a1 (2 ^ 54) (2 ^ 54) h.l1 h.l1 in
-    let m34 : a3 * r4 < 38 * 2 ^ 108 = below a3 r4 (2 ^ 54) (38 * 2 ^ 54) h.l3 y4 in
-    let m03 : t0 * a3 < 2 ^ 109 = below t0 a3 (2 ^ 55) (2 ^ 54) d0 h.l3 in
-    let m12 : t1 * a2 < 2 ^ 109 = below t1 a2 (2 ^ 55) (2 ^ 54) d1 h.l2 in
-    let m44 : a4 * s4 < 19 * 2 ^ 108 = below a4 s4 (2 ^ 54) (19 * 2 ^ 54) h.l4 z4 in
-    let m04 : t0 * a4 < 2 ^ 109 = below t0 a4 (2 ^ 55) (2 ^ 54) d0 h.l4 in
-    let m13 : t1 * a3 < 2 ^ 109 = below t1 a3 (2 ^ 55) (2 ^ 54) d1 h.l3 in
+    let m34 : a3 * r4 < 38 * 2 ^ 108 = below a3 r4 (2 ^ 54) (38 * 2 ^ 54) h.l3 v4.1 in
+    let m03 : t0 * a3 < 2 ^ 109 = below t0 a3 (2 ^ 55) (2 ^ 54) u0.1 h.l3 in
+    let m12 : t1 * a2 < 2 ^ 109 = below t1 a2 (2 ^ 55) (2 ^ 54) u1.1 h.l2 in
+    let m44 : a4 * s4 < 19 * 2 ^ 108 = below a4 s4 (2 ^ 54) (19 * 2 ^ 54) h.l4 w4.1 in
+    let m04 : t0 * a4 < 2 ^ 109 = below t0 a4 (2 ^ 55) (2 ^ 54) u0.1 h.l4 in
+    let m13 : t1 * a3 < 2 ^ 109 = below t1 a3 (2 ^ 55) (2 ^ 54) u1.1 h.l3 in
     let m22 : a2 * a2 < 2 ^ 108 = below a2 a2 (2 ^ 54) (2 ^ 54) h.l2 h.l2 in
     let f0 = three_value t2 s3 a0 a0 a1 r4 m23 (omega (arith, m00)) m14 in
     let f1 = three_value a3 s3 a2 r4 t0 a1 (omega (arith, m33)) m24 (omega (arith, m01)) in
     let f2 = three_value a3 r4 t0 a2 a1 a1 m34 (omega (arith, m02)) (omega (arith, m11)) in
     let f3 = three_value a4 s4 t0 a3 t1 a2 (omega (arith, m44)) (omega (arith, m03)) (omega (arith, m12)) in
     let f4 = three_value a2 a2 t0 a4 t1 a3 (omega (arith, m22)) (omega (arith, m04)) (omega (arith, m13)) in
-    let p01 : t0 * a1 ≡ 2 * a0 * a1 = ap (λ (n : ℕ). n * a1) u0 in
-    let p02 : t0 * a2 ≡ 2 * a0 * a2 = ap (λ (n : ℕ). n * a2) u0 in
-    let p03 : t0 * a3 ≡ 2 * a0 * a3 = ap (λ (n : ℕ). n * a3) u0 in
-    let p04 : t0 * a4 ≡ 2 * a0 * a4 = ap (λ (n : ℕ). n * a4) u0 in
-    let p12 : t1 * a2 ≡ 2 * a1 * a2 = ap (λ (n : ℕ). n * a2) u1 in
-    let p13 : t1 * a3 ≡ 2 * a1 * a3 = ap (λ (n : ℕ). n * a3) u1 in
-    let p14 : a1 * r4 ≡ a1 * (38 * a4) = ap (λ (n : ℕ). a1 * n) v4 in
-    let p23 : t2 * s3 ≡ 2 * a2 * (19 * a3) = ap₂ ◌*◌ u2 w3 in
-    let p24 : a2 * r4 ≡ a2 * (38 * a4) = ap (λ (n : ℕ). a2 * n) v4 in
-    let p33 : a3 * s3 ≡ a3 * (19 * a3) = ap (λ (n : ℕ). a3 * n) w3 in
-    let p34 : a3 * r4 ≡ a3 * (38 * a4) = ap (λ (n : ℕ). a3 * n) v4 in
-    let p44 : a4 * s4 ≡ a4 * (19 * a4) = ap (λ (n : ℕ). a4 * n) w4 in
+    let p01 : t0 * a1 ≡ 2 * a0 * a1 = ap (λ (n : ℕ). n * a1) u0.0 in
+    let p02 : t0 * a2 ≡ 2 * a0 * a2 = ap (λ (n : ℕ). n * a2) u0.0 in
+    let p03 : t0 * a3 ≡ 2 * a0 * a3 = ap (λ (n : ℕ). n * a3) u0.0 in
+    let p04 : t0 * a4 ≡ 2 * a0 * a4 = ap (λ (n : ℕ). n * a4) u0.0 in
+    let p12 : t1 * a2 ≡ 2 * a1 * a2 = ap (λ (n : ℕ). n * a2) u1.0 in
+    let p13 : t1 * a3 ≡ 2 * a1 * a3 = ap (λ (n : ℕ). n * a3) u1.0 in
+    let p14 : a1 * r4 ≡ a1 * (38 * a4) = ap (λ (n : ℕ). a1 * n) v4.0 in
+    let p23 : t2 * s3 ≡ 2 * a2 * (19 * a3) = ap₂ ◌*◌ u2.0 w3.0 in
+    let p24 : a2 * r4 ≡ a2 * (38 * a4) = ap (λ (n : ℕ). a2 * n) v4.0 in
+    let p33 : a3 * s3 ≡ a3 * (19 * a3) = ap (λ (n : ℕ). a3 * n) w3.0 in
+    let p34 : a3 * r4 ≡ a3 * (38 * a4) = ap (λ (n : ℕ). a3 * n) v4.0 in
+    let p44 : a4 * s4 ≡ a4 * (19 * a4) = ap (λ (n : ℕ). a4 * n) w4.0 in
     let c0 : ℕ = three t2 s3 a0 a0 a1 r4 in
     let g0 : c0 ≡ a0 * a0 + 19 * (a1 * a4) + 19 * (a2 * a3) + 19 * (a3 * a2) + 19 * (a4 * a1) = omega (arith, f0, p14, p23) in
     let n0 : c0 < 96 * 2 ^ 108 = omega (arith, f0, m00, m14, m23) in

@@ -32,6 +32,18 @@ below a b m n h k =
     let second : n * (a + 1) ≤ n * m = mul-le-mul_left n (omega (arith, h)) in
     omega (arith, first, second, k)
 
+-- limbs below a bound are below a higher one
+pub wider : (m n : ℕ) (a : List ℕ) → m ≤ n → AreBelow m a → AreBelow n a
+wider m n a h k = record { l0 = omega (arith, k.l0); l1 = omega (arith, k.l1); l2 = omega (arith, k.l2); l3 = omega (arith, k.l3); l4 = omega (arith, k.l4) }
+
+-- so many times a limb is what it is to be where it is below 2^64, and below as many times the limb's bound
+pub times_small : (k m n x : ℕ) → 0 < k → k * m ≤ n → n ≤ 2 ^ 64 → x < m → (mul64 x k ≡ k * x) × (mul64 x k < n)
+times_small k m n x p l t h =
+    let more : k * (x + 1) ≤ k * m = mul-le-mul_left k (omega (arith, h)) in
+    let small : k * x < n = omega (arith, p, l, more) in
+    let is : mul64 x k ≡ k * x = omega (arith, t, small) in
+    (is, omega (arith, is, small))
+
 -- five sums, each taken modulo a number
 modulo : (w s x y : ℕ) → s ≡ y % w → (s + x % w) % w ≡ (y + x) % w
 modulo w s x y e = ap (λ (n : ℕ). (n + x % w) % w) e ∙ sym (add-mod y x w)

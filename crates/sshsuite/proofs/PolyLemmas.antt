@@ -11,7 +11,7 @@ use Rattle.sshsuite.specs.Bits.{word_at}
 use Rattle.sshsuite.specs.FieldValues.{AreBelow}
 use Rattle.sshsuite.specs.Limbs.{add64, mul64}
 use Rattle.sshsuite.specs.Poly1305.{accumulated, add, block_at, block_limbs, canonical, carried, clamped_r, dot, limbs_of, mul, packed, s_of, sum_to, tag_of}
-use Rattle.sshsuite.proofs.LimbLemmas.{IsRadix, at_places, dotted, folded, passed, reduced_value, whole64}
+use Rattle.sshsuite.proofs.LimbLemmas.{IsRadix, at_places, dotted, folded, passed, reduced_value, times_small, whole64, wider}
 use Rattle.sshsuite.proofs.WordLemmas.{or_high, word_low, zero_bytes}
 use Rattle.sshsuite.specs.PolyNumbers.{accumulator, block_number, mac, modulus, number_of_16, r_number, s_number}
 
@@ -163,24 +163,15 @@ mul_value a b h k =
     let b2 : ℕ = slice_index b 2 in
     let b3 : ℕ = slice_index b 3 in
     let b4 : ℕ = slice_index b 4 in
-    let k0 : b0 < 2 ^ 29 = omega (arith, k.l0) in
-    let k1 : b1 < 2 ^ 29 = omega (arith, k.l1) in
-    let k2 : b2 < 2 ^ 29 = omega (arith, k.l2) in
-    let k3 : b3 < 2 ^ 29 = omega (arith, k.l3) in
-    let k4 : b4 < 2 ^ 29 = omega (arith, k.l4) in
     let s1 : ℕ = mul64 b1 5 in
-    let w1 : s1 ≡ 5 * b1 = omega (arith, k.l1) in
-    let z1 : s1 < 2 ^ 29 = omega (arith, w1, k.l1) in
+    let w1 = times_small 5 (2 ^ 26) (2 ^ 29) b1 (omega arith) (omega arith) (omega arith) k.l1 in
     let s2 : ℕ = mul64 b2 5 in
-    let w2 : s2 ≡ 5 * b2 = omega (arith, k.l2) in
-    let z2 : s2 < 2 ^ 29 = omega (arith, w2, k.l2) in
+    let w2 = times_small 5 (2 ^ 26) (2 ^ 29) b2 (omega arith) (omega arith) (omega arith) k.l2 in
     let s3 : ℕ = mul64 b3 5 in
-    let w3 : s3 ≡ 5 * b3 = omega (arith, k.l3) in
-    let z3 : s3 < 2 ^ 29 = omega (arith, w3, k.l3) in
+    let w3 = times_small 5 (2 ^ 26) (2 ^ 29) b3 (omega arith) (omega arith) (omega arith) k.l3 in
     let s4 : ℕ = mul64 b4 5 in
-    let w4 : s4 ≡ 5 * b4 = omega (arith, k.l4) in
-    let z4 : s4 < 2 ^ 29 = omega (arith, w4, k.l4) in
-    let both = folded 5 (2 ^ 28) (2 ^ 29) (2 ^ 61) dot dot_value a b s1 s2 s3 s4 h (record { l0 = k0; l1 = k1; l2 = k2; l3 = k3; l4 = k4 }) w1 w2 w3 w4 z1 z2 z3 z4 in
+    let w4 = times_small 5 (2 ^ 26) (2 ^ 29) b4 (omega arith) (omega arith) (omega arith) k.l4 in
+    let both = folded 5 (2 ^ 28) (2 ^ 29) (2 ^ 61) dot dot_value a b s1 s2 s3 s4 h (wider (2 ^ 26) (2 ^ 29) b (omega arith) k) w1.0 w2.0 w3.0 w4.0 w1.1 w2.1 w3.1 w4.1 in
     let out = carried_value _ both.1 in
     let all = expand a0 a1 a2 a3 a4 b0 b1 b2 b3 b4 _ _ _ _ _ both.0.p0 both.0.p1 both.0.p2 both.0.p3 both.0.p4 in
     (out.0, out.1 ∙ sym (multiple (value a * value b) _ (weighed (a1 * b4 + a2 * b3 + a3 * b2 + a4 * b1) (a2 * b4 + a3 * b3 + a4 * b2) (a3 * b4 + a4 * b3) (a4 * b4) 0) all))
