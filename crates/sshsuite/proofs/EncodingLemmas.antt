@@ -1,13 +1,13 @@
 -- Limbs that are read of bytes have the number of these without their highest bit, and limbs are written as the bytes of their
 -- number modulo 2^255 - 19.
 
-use Rattle.std.proofs.Common.{◌≡◌, ℕ, ◌+◌, ◌*◌, ◌/◌, ◌%◌, ◌^◌, ◌<◌, ◌++◌, zero, suc, List, [], ◌∷◌, refl, sym, ap, ap₂, ◌∙◌, arith}
+use Rattle.std.proofs.Common.{◌≡◌, ℕ, ◌+◌, ◌*◌, ◌/◌, ◌%◌, ◌^◌, ◌<◌, ◌++◌, List, [], ◌∷◌, refl, ap, ap₂, ◌∙◌, arith}
 use Rattle.std.specs.Int.{w64, to_le_bytes}
 use Rattle.std.specs.Prelude.{bit_or, slice_index}
 use Rattle.sshsuite.specs.Bits.{bytes_of_words, number_of_32, word_at}
 use Rattle.sshsuite.specs.FieldElement.{add, canonical, decode, encode, none, packed}
-use Rattle.sshsuite.specs.Limbs.{add64, mul64, reduced_once}
-use Rattle.sshsuite.proofs.FieldLemmas.{AreTight, add_tight, least}
+use Rattle.sshsuite.proofs.FieldLemmas.{AreTight, add_tight, below_tight, bounded, least, radix}
+use Rattle.sshsuite.proofs.LimbLemmas.{reduced_value, wider}
 use Rattle.sshsuite.proofs.WordLemmas.{AreWords, or_high}
 use Rattle.sshsuite.specs.FieldBytes.{bytes_of_number}
 use Rattle.sshsuite.specs.FieldValues.{AreBelow, field, value, weighed}
@@ -35,9 +35,6 @@ five_limbs w0 w1 w2 w3 l0 l1 l2 l3 l4 h e0 e1 e2 e3 e4 = omega arith
 
 least_of : (x y q : ℕ) → x + 2 ^ 255 * q ≡ y → x < 2 ^ 255 → x ≡ y % 2 ^ 255
 least_of x y q e h = omega arith
-
-bounded : (l0 l1 l2 l3 l4 : ℕ) → l0 < 2 ^ 51 → l1 < 2 ^ 51 → l2 < 2 ^ 51 → l3 < 2 ^ 51 → l4 < 2 ^ 51 → weighed l0 l1 l2 l3 l4 < 2 ^ 255
-bounded l0 l1 l2 l3 l4 h0 h1 h2 h3 h4 = omega arith
 
 pub decode_value : (bytes : List ℕ) → AreWords bytes → AreBelow (2 ^ 51) (decode bytes) × (value (decode bytes) ≡ number_of_32 bytes % 2 ^ 255)
 unfolding decode number_of_32
@@ -104,69 +101,14 @@ packed_value l h =
     words_of (packed l) (value l) b0 b1 b2 (four_words l0 l1 l2 l3 l4 _ _ _ _ h.l4 e0 e1 e2 e3)
 
 -- One subtraction of the modulus.
-settled : (v r s over top : ℕ) → v + 19 ≡ r + 2 ^ 255 * over → r < 2 ^ 255 → v + 19 * over ≡ s + 2 ^ 255 * top → s < 2 ^ 255 → v < 2 * field → s ≡ v % field
-settled v r s zero top e h f k low = omega arith
-settled v r s (suc zero) top e h f k low = omega arith
-settled v r s (suc (suc over)) top e h f k low = absurd (omega arith)
-
-chain : (l0 l1 l2 l3 l4 first q0 q1 q2 q3 q4 r0 r1 r2 r3 r4 : ℕ) → l0 + first ≡ 2 ^ 51 * q0 + r0 → l1 + q0 ≡ 2 ^ 51 * q1 + r1 → l2 + q1 ≡ 2 ^ 51 * q2 + r2
-    → l3 + q2 ≡ 2 ^ 51 * q3 + r3 → l4 + q3 ≡ 2 ^ 51 * q4 + r4 → weighed l0 l1 l2 l3 l4 + first ≡ weighed r0 r1 r2 r3 r4 + 2 ^ 255 * q4
-chain l0 l1 l2 l3 l4 first q0 q1 q2 q3 q4 r0 r1 r2 r3 r4 e0 e1 e2 e3 e4 = omega arith
-
-sum64 : (x y : ℕ) → x < 2 ^ 53 → y < 2 ^ 53 → x + y ≡ 2 ^ 51 * (add64 x y / 2 ^ 51) + add64 x y % 2 ^ 51
-sum64 x y h k = omega arith
-
-over_low : (x y : ℕ) → x < 2 ^ 53 → y < 2 ^ 53 → add64 x y / 2 ^ 51 < 8
-over_low x y h k = omega arith
-
 tight_value : (l0 l1 l2 l3 l4 : ℕ) → l0 < 2 ^ 52 → l1 < 2 ^ 51 → l2 < 2 ^ 51 → l3 < 2 ^ 51 → l4 < 2 ^ 51 → weighed l0 l1 l2 l3 l4 < 2 * field
 tight_value l0 l1 l2 l3 l4 h0 h1 h2 h3 h4 = omega arith
 
 canonical_value : (l : List ℕ) → AreTight l → AreBelow (2 ^ 51) (canonical l) × (value (canonical l) ≡ value l % field)
-unfolding canonical reduced_once
+unfolding canonical
 canonical_value l h =
-    let l0 : ℕ = slice_index l 0 in
-    let l1 : ℕ = slice_index l 1 in
-    let l2 : ℕ = slice_index l 2 in
-    let l3 : ℕ = slice_index l 3 in
-    let l4 : ℕ = slice_index l 4 in
-    let k0 : l0 < 2 ^ 53 = omega (arith, h.l0) in
-    let k1 : l1 < 2 ^ 53 = omega (arith, h.l1) in
-    let k2 : l2 < 2 ^ 53 = omega (arith, h.l2) in
-    let k3 : l3 < 2 ^ 53 = omega (arith, h.l3) in
-    let k4 : l4 < 2 ^ 53 = omega (arith, h.l4) in
-    let o0 : ℕ = add64 l0 19 / 2 ^ 51 in
-    let p0 : o0 < 2 ^ 53 = omega (arith, over_low l0 19 k0 (omega arith)) in
-    let o1 : ℕ = add64 l1 o0 / 2 ^ 51 in
-    let p1 : o1 < 2 ^ 53 = omega (arith, over_low l1 o0 k1 p0) in
-    let o2 : ℕ = add64 l2 o1 / 2 ^ 51 in
-    let p2 : o2 < 2 ^ 53 = omega (arith, over_low l2 o1 k2 p1) in
-    let o3 : ℕ = add64 l3 o2 / 2 ^ 51 in
-    let p3 : o3 < 2 ^ 53 = omega (arith, over_low l3 o2 k3 p2) in
-    let over : ℕ = add64 l4 o3 / 2 ^ 51 in
-    let p4 : over < 8 = over_low l4 o3 k4 p3 in
-    let times : mul64 over 19 ≡ 19 * over = omega (arith, p4) in
-    let t0 : mul64 over 19 < 2 ^ 53 = omega (arith, times, p4) in
-    let m0 : ℕ = add64 l0 (mul64 over 19) in
-    let q0 : m0 / 2 ^ 51 < 2 ^ 53 = omega (arith, over_low l0 (mul64 over 19) k0 t0) in
-    let m1 : ℕ = add64 l1 (m0 / 2 ^ 51) in
-    let q1 : m1 / 2 ^ 51 < 2 ^ 53 = omega (arith, over_low l1 (m0 / 2 ^ 51) k1 q0) in
-    let m2 : ℕ = add64 l2 (m1 / 2 ^ 51) in
-    let q2 : m2 / 2 ^ 51 < 2 ^ 53 = omega (arith, over_low l2 (m1 / 2 ^ 51) k2 q1) in
-    let m3 : ℕ = add64 l3 (m2 / 2 ^ 51) in
-    let q3 : m3 / 2 ^ 51 < 2 ^ 53 = omega (arith, over_low l3 (m2 / 2 ^ 51) k3 q2) in
-    let m4 : ℕ = add64 l4 (m3 / 2 ^ 51) in
-    let first = chain l0 l1 l2 l3 l4 19 o0 o1 o2 o3 over (add64 l0 19 % 2 ^ 51) (add64 l1 o0 % 2 ^ 51) (add64 l2 o1 % 2 ^ 51) (add64 l3 o2 % 2 ^ 51) (add64 l4 o3 % 2 ^ 51)
-    (sum64 l0 19 k0 (omega arith)) (sum64 l1 o0 k1 p0) (sum64 l2 o1 k2 p1) (sum64 l3 o2 k3 p2) (sum64 l4 o3 k4 p3) in
-    let second = chain l0 l1 l2 l3 l4 (mul64 over 19) (m0 / 2 ^ 51) (m1 / 2 ^ 51) (m2 / 2 ^ 51) (m3 / 2 ^ 51) (m4 / 2 ^ 51)
-    (m0 % 2 ^ 51) (m1 % 2 ^ 51) (m2 % 2 ^ 51) (m3 % 2 ^ 51) (m4 % 2 ^ 51)
-    (sum64 l0 (mul64 over 19) k0 t0) (sum64 l1 (m0 / 2 ^ 51) k1 q0) (sum64 l2 (m1 / 2 ^ 51) k2 q1) (sum64 l3 (m2 / 2 ^ 51) k3 q2) (sum64 l4 (m3 / 2 ^ 51) k4 q3) in
-    let below : AreBelow (2 ^ 51) (canonical l) = record { l0 = least m0; l1 = least m1; l2 = least m2; l3 = least m3; l4 = least m4 } in (
-      below,
-      settled (value l) (weighed (add64 l0 19 % 2 ^ 51) (add64 l1 o0 % 2 ^ 51) (add64 l2 o1 % 2 ^ 51) (add64 l3 o2 % 2 ^ 51) (add64 l4 o3 % 2 ^ 51)) (value (canonical l)) over (m4 / 2 ^ 51)
-          first (bounded _ _ _ _ _ (least _) (least _) (least _) (least _) (least _)) (ap (λ (n : ℕ). value l + n) (sym times) ∙ second)
-          (bounded _ _ _ _ _ below.l0 below.l1 below.l2 below.l3 below.l4) (tight_value l0 l1 l2 l3 l4 h.l0 h.l1 h.l2 h.l3 h.l4),
-    )
+    reduced_value (2 ^ 51) 19 (2 ^ 53) (2 ^ 255) field weighed radix l (wider (2 ^ 52) (2 ^ 53) l (omega arith) (below_tight l h))
+    (tight_value _ _ _ _ _ h.l0 h.l1 h.l2 h.l3 h.l4)
 
 none_below : AreBelow (2 ^ 52) none
 none_below = record { l0 = omega arith; l1 = omega arith; l2 = omega arith; l3 = omega arith; l4 = omega arith }

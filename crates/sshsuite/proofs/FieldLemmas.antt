@@ -1,19 +1,12 @@
 -- The arithmetic of limbs is that of the field, where each limb of a factor is below 2^54 and of all else below 2^52: nothing is
 -- lost, and the number of the limbs is what it is to be modulo 2^255 - 19.
 
-use Rattle.std.proofs.Common.{◌≡◌, ℕ, ◌+◌, ◌*◌, ◌/◌, ◌%◌, ◌^◌, ◌<◌, ◌≤◌, List, [], ◌∷◌, sym, ap, ap₂, ◌∙◌, arith}
-use Rattle.std.proofs.Math.Nat.{mul-le-mul_left}
+use Rattle.std.proofs.Common.{◌≡◌, ℕ, ◌+◌, ◌*◌, ◌/◌, ◌%◌, ◌^◌, ◌<◌, ◌≤◌, List, [], ◌∷◌, zero, suc, refl, sym, ap, ap₂, ◌∙◌, arith}
 use Rattle.std.specs.Prelude.{slice_index}
 use Rattle.sshsuite.specs.FieldElement.{above, add, carried, carried_once, dot, less, limbs_of, loose_difference, loose_sum, mul, scaled, squared, sub, three, with_carry}
 use Rattle.sshsuite.specs.Limbs.{add64, add128, mul64, mul128}
 use Rattle.sshsuite.specs.FieldValues.{AreBelow, field, value, weighed}
-use Rattle.sshsuite.proofs.LimbLemmas.{at_places, moved, whole64}
-
--- one pass of carries
-pass : (c0 c1 c2 c3 c4 q0 q1 q2 q3 q4 r0 r1 r2 r3 r4 : ℕ) → c0 ≡ 2 ^ 51 * q0 + r0 → c1 + q0 ≡ 2 ^ 51 * q1 + r1 → c2 + q1 ≡ 2 ^ 51 * q2 + r2
-    → c3 + q2 ≡ 2 ^ 51 * q3 + r3 → c4 + q3 ≡ 2 ^ 51 * q4 + r4
-    → weighed c0 c1 c2 c3 c4 ≡ weighed r0 r1 r2 r3 r4 + (field + 19) * q4
-pass c0 c1 c2 c3 c4 q0 q1 q2 q3 q4 r0 r1 r2 r3 r4 e0 e1 e2 e3 e4 = omega arith
+use Rattle.sshsuite.proofs.LimbLemmas.{IsRadix, at_places, below, dotted, moved, passed, times_small, wider}
 
 -- a sum that is taken modulo 2^128 and isn't more
 pub whole : (x y : ℕ) → x < 2 ^ 127 → y < 2 ^ 127 → add128 x y ≡ x + y
@@ -26,15 +19,40 @@ tight = 2251799813693440
 low51 : (x : ℕ) → x % 2 ^ 51 < tight
 low51 x = omega arith
 
-parts : (x : ℕ) → x ≡ 2 ^ 51 * (x / 2 ^ 51) + x % 2 ^ 51
-parts x = omega arith
-
 pub multiple : (x y q : ℕ) → x ≡ y + field * q → x % field ≡ y % field
 multiple x y q e = omega arith
 
-together : (v r0 r1 r2 r3 r4 q d0 h f0 last : ℕ) → v ≡ weighed r0 r1 r2 r3 r4 + (field + 19) * q → d0 ≡ r0 + 19 * q → d0 ≡ 2 ^ 51 * h + f0 → last ≡ r1 + h
-    → v ≡ weighed f0 last r2 r3 r4 + field * q
-together v r0 r1 r2 r3 r4 q d0 h f0 last e1 e2 e3 e4 = omega arith
+pub least : (x : ℕ) → x % 2 ^ 51 < 2 ^ 51
+least x = omega arith
+
+settled : (v r s over top : ℕ) → v + 19 ≡ r + 2 ^ 255 * over → r < 2 ^ 255 → v + 19 * over ≡ s + 2 ^ 255 * top → s < 2 ^ 255 → v < 2 * field → s ≡ v % field
+settled v r s zero top e h f k low = omega arith
+settled v r s (suc zero) top e h f k low = omega arith
+settled v r s (suc (suc over)) top e h f k low = absurd (omega arith)
+
+chain : (l0 l1 l2 l3 l4 first q0 q1 q2 q3 q4 r0 r1 r2 r3 r4 : ℕ) → l0 + first ≡ 2 ^ 51 * q0 + r0 → l1 + q0 ≡ 2 ^ 51 * q1 + r1 → l2 + q1 ≡ 2 ^ 51 * q2 + r2
+    → l3 + q2 ≡ 2 ^ 51 * q3 + r3 → l4 + q3 ≡ 2 ^ 51 * q4 + r4 → weighed l0 l1 l2 l3 l4 + first ≡ weighed r0 r1 r2 r3 r4 + 2 ^ 255 * q4
+chain l0 l1 l2 l3 l4 first q0 q1 q2 q3 q4 r0 r1 r2 r3 r4 e0 e1 e2 e3 e4 = omega arith
+
+pub bounded : (l0 l1 l2 l3 l4 : ℕ) → l0 < 2 ^ 51 → l1 < 2 ^ 51 → l2 < 2 ^ 51 → l3 < 2 ^ 51 → l4 < 2 ^ 51 → weighed l0 l1 l2 l3 l4 < 2 ^ 255
+bounded l0 l1 l2 l3 l4 h0 h1 h2 h3 h4 = omega arith
+
+pub radix : IsRadix (2 ^ 51) 19 (2 ^ 53) (2 ^ 255) field weighed
+radix = record {
+  eight = omega arith;
+  first = omega arith;
+  rest = least;
+  parted = λ x y h k. (omega arith, omega arith);
+  times = λ n h. (omega arith, omega arith);
+  chain = chain;
+  lowest = λ l0 l1 l2 l3 l4 first. omega arith;
+  beyond = refl;
+  bounded = bounded;
+  settled = settled;
+}
+
+together : (d0 d1 r1 r2 r3 r4 : ℕ) → d1 ≡ r1 + d0 / 2 ^ 51 → weighed (d0 % 2 ^ 51) d1 r2 r3 r4 ≡ weighed d0 r1 r2 r3 r4
+together d0 d1 r1 r2 r3 r4 e = omega arith
 
 -- a sum below 2^115 has a word above its lowest 51 bits
 above_is : (c : ℕ) → c < 2 ^ 115 → above c ≡ c / 2 ^ 51
@@ -83,38 +101,10 @@ module _ (c0 c1 c2 c3 c4 : ℕ) (h0 : c0 < 96 * 2 ^ 108) (h1 : c1 < 96 * 2 ^ 108
       let x0 : d0 ≡ c0 % 2 ^ 51 + 19 * (e4 / 2 ^ 51) = returned c0 e4 w4.low in
       let y0 : d0 < 2 ^ 64 = word (c0 % 2 ^ 51 + mul64 (above e4) 19) in
       let x1 = last_carry e1 d0 y0 in
-      let first_pass : weighed c0 c1 c2 c3 c4 ≡ weighed (c0 % 2 ^ 51) (e1 % 2 ^ 51) (e2 % 2 ^ 51) (e3 % 2 ^ 51) (e4 % 2 ^ 51) + (field + 19) * (e4 / 2 ^ 51)
-      = pass c0 c1 c2 c3 c4 (c0 / 2 ^ 51) (e1 / 2 ^ 51) (e2 / 2 ^ 51) (e3 / 2 ^ 51) (e4 / 2 ^ 51) (c0 % 2 ^ 51) (e1 % 2 ^ 51) (e2 % 2 ^ 51) (e3 % 2 ^ 51) (e4 % 2 ^ 51)
-      (parts c0) (sym w1.is ∙ parts e1) (sym w2.is ∙ parts e2) (sym w3.is ∙ parts e3) (sym w4.is ∙ parts e4) in
-      let all = together (weighed c0 c1 c2 c3 c4) (c0 % 2 ^ 51) (e1 % 2 ^ 51) (e2 % 2 ^ 51) (e3 % 2 ^ 51) (e4 % 2 ^ 51) (e4 / 2 ^ 51) d0 (d0 / 2 ^ 51) (d0 % 2 ^ 51) d1
-      first_pass x0 (parts d0) x1.0 in (
+      let all = passed (2 ^ 51) 19 (2 ^ 53) (2 ^ 255) field weighed radix c0 c1 c2 c3 c4 e1 e2 e3 e4 d0 w1.is w2.is w3.is w4.is x0 in (
         record { l0 = low51 d0; l1 = x1.1; l2 = low51 e2; l3 = low51 e3; l4 = low51 e4 },
-        sym (multiple (weighed c0 c1 c2 c3 c4) (weighed (d0 % 2 ^ 51) d1 (e2 % 2 ^ 51) (e3 % 2 ^ 51) (e4 % 2 ^ 51)) (e4 / 2 ^ 51) all),
+        ap (λ (n : ℕ). n % field) (together d0 d1 (e1 % 2 ^ 51) (e2 % 2 ^ 51) (e3 % 2 ^ 51) (e4 % 2 ^ 51) x1.0) ∙ all,
       )
-
--- a product, by bounds of its factors
-below : (a b m n : ℕ) → a < m → b < n → a * b < m * n
-below a b m n h k =
-    let first : a * b ≤ a * n = mul-le-mul_left a (omega (arith, k)) in
-    let second : n * (a + 1) ≤ n * m = mul-le-mul_left n (omega (arith, h)) in
-    omega (arith, first, second, k)
-
--- five products
-sums : (x0 x1 x2 x3 x4 : ℕ) → x0 < 19 * 2 ^ 108 → x1 < 19 * 2 ^ 108 → x2 < 19 * 2 ^ 108 → x3 < 19 * 2 ^ 108 → x4 < 19 * 2 ^ 108
-    → add128 (add128 (add128 (add128 (x0 % 2 ^ 128) (x1 % 2 ^ 128)) (x2 % 2 ^ 128)) (x3 % 2 ^ 128)) (x4 % 2 ^ 128) ≡ x0 + x1 + x2 + x3 + x4
-sums x0 x1 x2 x3 x4 h0 h1 h2 h3 h4 =
-    let s0 : x0 % 2 ^ 128 ≡ x0 = omega (arith, h0) in
-    let s1 : x1 % 2 ^ 128 ≡ x1 = omega (arith, h1) in
-    let s2 : x2 % 2 ^ 128 ≡ x2 = omega (arith, h2) in
-    let s3 : x3 % 2 ^ 128 ≡ x3 = omega (arith, h3) in
-    let s4 : x4 % 2 ^ 128 ≡ x4 = omega (arith, h4) in
-    let t1 : add128 (x0 % 2 ^ 128) (x1 % 2 ^ 128) ≡ x0 + x1 = whole (x0 % 2 ^ 128) (x1 % 2 ^ 128) (omega (arith, s0, h0)) (omega (arith, s1, h1)) ∙ omega (arith, s0, s1) in
-    let t2 : add128 (add128 (x0 % 2 ^ 128) (x1 % 2 ^ 128)) (x2 % 2 ^ 128) ≡ x0 + x1 + x2
-    = whole (add128 (x0 % 2 ^ 128) (x1 % 2 ^ 128)) (x2 % 2 ^ 128) (omega (arith, t1, h0, h1)) (omega (arith, s2, h2)) ∙ omega (arith, t1, s2) in
-    let t3 : add128 (add128 (add128 (x0 % 2 ^ 128) (x1 % 2 ^ 128)) (x2 % 2 ^ 128)) (x3 % 2 ^ 128) ≡ x0 + x1 + x2 + x3
-    = whole (add128 (add128 (x0 % 2 ^ 128) (x1 % 2 ^ 128)) (x2 % 2 ^ 128)) (x3 % 2 ^ 128) (omega (arith, t2, h0, h1, h2)) (omega (arith, s3, h3)) ∙ omega (arith, t2, s3) in
-    whole (add128 (add128 (add128 (x0 % 2 ^ 128) (x1 % 2 ^ 128)) (x2 % 2 ^ 128)) (x3 % 2 ^ 128)) (x4 % 2 ^ 128) (omega (arith, t3, h0, h1, h2, h3)) (omega (arith, s4, h4))
-    ∙ omega (arith, t3, s4)
 
 -- nineteen times 2^54
 abbrev folded_bound : ℕ
@@ -124,14 +114,8 @@ dot_value : (a b : List ℕ) → AreBelow (2 ^ 54) a → AreBelow folded_bound b
     → (dot a b ≡ at_places a b) × (dot a b < 96 * 2 ^ 108)
 unfolding dot
 dot_value a b h k =
-    let m0 : slice_index a 0 * slice_index b 0 < 19 * 2 ^ 108 = below (slice_index a 0) (slice_index b 0) (2 ^ 54) folded_bound h.l0 k.l0 in
-    let m1 : slice_index a 1 * slice_index b 1 < 19 * 2 ^ 108 = below (slice_index a 1) (slice_index b 1) (2 ^ 54) folded_bound h.l1 k.l1 in
-    let m2 : slice_index a 2 * slice_index b 2 < 19 * 2 ^ 108 = below (slice_index a 2) (slice_index b 2) (2 ^ 54) folded_bound h.l2 k.l2 in
-    let m3 : slice_index a 3 * slice_index b 3 < 19 * 2 ^ 108 = below (slice_index a 3) (slice_index b 3) (2 ^ 54) folded_bound h.l3 k.l3 in
-    let m4 : slice_index a 4 * slice_index b 4 < 19 * 2 ^ 108 = below (slice_index a 4) (slice_index b 4) (2 ^ 54) folded_bound h.l4 k.l4 in
-    let is = sums (slice_index a 0 * slice_index b 0) (slice_index a 1 * slice_index b 1) (slice_index a 2 * slice_index b 2)
-    (slice_index a 3 * slice_index b 3) (slice_index a 4 * slice_index b 4) m0 m1 m2 m3 m4 in
-    (is, omega (arith, is, m0, m1, m2, m3, m4))
+    let sum = dotted (2 ^ 128) (2 ^ 54) folded_bound a b (omega arith) h k in
+    (sum.0, omega (arith, sum.0, sum.1))
 
 -- the product of two numbers by limbs
 expand : (a0 a1 a2 a3 a4 b0 b1 b2 b3 b4 c0 c1 c2 c3 c4 : ℕ)
@@ -158,43 +142,35 @@ mul_loose a b h k =
     let b2 : ℕ = slice_index b 2 in
     let b3 : ℕ = slice_index b 3 in
     let b4 : ℕ = slice_index b 4 in
-    let k0 : b0 < folded_bound = omega (arith, k.l0) in
-    let k1 : b1 < folded_bound = omega (arith, k.l1) in
-    let k2 : b2 < folded_bound = omega (arith, k.l2) in
-    let k3 : b3 < folded_bound = omega (arith, k.l3) in
-    let k4 : b4 < folded_bound = omega (arith, k.l4) in
+    let l = wider (2 ^ 54) folded_bound b (omega arith) k in
     let s1 : ℕ = mul64 b1 19 in
-    let w1 : s1 ≡ 19 * b1 = omega (arith, k.l1) in
-    let z1 : s1 < folded_bound = omega (arith, w1, k.l1) in
+    let w1 = times_small 19 (2 ^ 54) folded_bound b1 (omega arith) (omega arith) (omega arith) k.l1 in
     let s2 : ℕ = mul64 b2 19 in
-    let w2 : s2 ≡ 19 * b2 = omega (arith, k.l2) in
-    let z2 : s2 < folded_bound = omega (arith, w2, k.l2) in
+    let w2 = times_small 19 (2 ^ 54) folded_bound b2 (omega arith) (omega arith) (omega arith) k.l2 in
     let s3 : ℕ = mul64 b3 19 in
-    let w3 : s3 ≡ 19 * b3 = omega (arith, k.l3) in
-    let z3 : s3 < folded_bound = omega (arith, w3, k.l3) in
+    let w3 = times_small 19 (2 ^ 54) folded_bound b3 (omega arith) (omega arith) (omega arith) k.l3 in
     let s4 : ℕ = mul64 b4 19 in
-    let w4 : s4 ≡ 19 * b4 = omega (arith, k.l4) in
-    let z4 : s4 < folded_bound = omega (arith, w4, k.l4) in
+    let w4 = times_small 19 (2 ^ 54) folded_bound b4 (omega arith) (omega arith) (omega arith) k.l4 in
     let f0 = dot_value (a3 ∷ a2 ∷ a1 ∷ a0 ∷ a4 ∷ []) (s2 ∷ s3 ∷ s4 ∷ b0 ∷ s1 ∷ [])
-    (record { l0 = h.l3; l1 = h.l2; l2 = h.l1; l3 = h.l0; l4 = h.l4 }) (record { l0 = z2; l1 = z3; l2 = z4; l3 = k0; l4 = z1 }) in
+    (record { l0 = h.l3; l1 = h.l2; l2 = h.l1; l3 = h.l0; l4 = h.l4 }) (record { l0 = w2.1; l1 = w3.1; l2 = w4.1; l3 = l.l0; l4 = w1.1 }) in
     let f1 = dot_value (a4 ∷ a3 ∷ a2 ∷ a1 ∷ a0 ∷ []) (s2 ∷ s3 ∷ s4 ∷ b0 ∷ b1 ∷ [])
-    (record { l0 = h.l4; l1 = h.l3; l2 = h.l2; l3 = h.l1; l4 = h.l0 }) (record { l0 = z2; l1 = z3; l2 = z4; l3 = k0; l4 = k1 }) in
+    (record { l0 = h.l4; l1 = h.l3; l2 = h.l2; l3 = h.l1; l4 = h.l0 }) (record { l0 = w2.1; l1 = w3.1; l2 = w4.1; l3 = l.l0; l4 = l.l1 }) in
     let f2 = dot_value (a0 ∷ a4 ∷ a3 ∷ a2 ∷ a1 ∷ []) (b2 ∷ s3 ∷ s4 ∷ b0 ∷ b1 ∷ [])
-    (record { l0 = h.l0; l1 = h.l4; l2 = h.l3; l3 = h.l2; l4 = h.l1 }) (record { l0 = k2; l1 = z3; l2 = z4; l3 = k0; l4 = k1 }) in
+    (record { l0 = h.l0; l1 = h.l4; l2 = h.l3; l3 = h.l2; l4 = h.l1 }) (record { l0 = l.l2; l1 = w3.1; l2 = w4.1; l3 = l.l0; l4 = l.l1 }) in
     let f3 = dot_value (a1 ∷ a0 ∷ a4 ∷ a3 ∷ a2 ∷ []) (b2 ∷ b3 ∷ s4 ∷ b0 ∷ b1 ∷ [])
-    (record { l0 = h.l1; l1 = h.l0; l2 = h.l4; l3 = h.l3; l4 = h.l2 }) (record { l0 = k2; l1 = k3; l2 = z4; l3 = k0; l4 = k1 }) in
+    (record { l0 = h.l1; l1 = h.l0; l2 = h.l4; l3 = h.l3; l4 = h.l2 }) (record { l0 = l.l2; l1 = l.l3; l2 = w4.1; l3 = l.l0; l4 = l.l1 }) in
     let f4 = dot_value (a2 ∷ a1 ∷ a0 ∷ a4 ∷ a3 ∷ []) (b2 ∷ b3 ∷ b4 ∷ b0 ∷ b1 ∷ [])
-    (record { l0 = h.l2; l1 = h.l1; l2 = h.l0; l3 = h.l4; l4 = h.l3 }) (record { l0 = k2; l1 = k3; l2 = k4; l3 = k0; l4 = k1 }) in
-    let p14 = moved 19 a1 b4 s4 w4 in
-    let p23 = moved 19 a2 b3 s3 w3 in
-    let p24 = moved 19 a2 b4 s4 w4 in
-    let p32 = moved 19 a3 b2 s2 w2 in
-    let p33 = moved 19 a3 b3 s3 w3 in
-    let p34 = moved 19 a3 b4 s4 w4 in
-    let p41 = moved 19 a4 b1 s1 w1 in
-    let p42 = moved 19 a4 b2 s2 w2 in
-    let p43 = moved 19 a4 b3 s3 w3 in
-    let p44 = moved 19 a4 b4 s4 w4 in
+    (record { l0 = h.l2; l1 = h.l1; l2 = h.l0; l3 = h.l4; l4 = h.l3 }) (record { l0 = l.l2; l1 = l.l3; l2 = l.l4; l3 = l.l0; l4 = l.l1 }) in
+    let p14 = moved 19 a1 b4 s4 w4.0 in
+    let p23 = moved 19 a2 b3 s3 w3.0 in
+    let p24 = moved 19 a2 b4 s4 w4.0 in
+    let p32 = moved 19 a3 b2 s2 w2.0 in
+    let p33 = moved 19 a3 b3 s3 w3.0 in
+    let p34 = moved 19 a3 b4 s4 w4.0 in
+    let p41 = moved 19 a4 b1 s1 w1.0 in
+    let p42 = moved 19 a4 b2 s2 w2.0 in
+    let p43 = moved 19 a4 b3 s3 w3.0 in
+    let p44 = moved 19 a4 b4 s4 w4.0 in
     let c0 : ℕ = dot (a3 ∷ a2 ∷ a1 ∷ a0 ∷ a4 ∷ []) (s2 ∷ s3 ∷ s4 ∷ b0 ∷ s1 ∷ []) in
     let g0 : c0 ≡ a0 * b0 + 19 * (a1 * b4) + 19 * (a2 * b3) + 19 * (a3 * b2) + 19 * (a4 * b1) = omega (arith, f0.0, p14, p23, p32, p41) in
     let c1 : ℕ = dot (a4 ∷ a3 ∷ a2 ∷ a1 ∷ a0 ∷ []) (s2 ∷ s3 ∷ s4 ∷ b0 ∷ b1 ∷ []) in
@@ -214,10 +190,6 @@ mul_loose a b h k =
     let out = carried_value c0 c1 c2 c3 c4 f0.1 f1.1 f2.1 f3.1 n4 in
     let all = expand a0 a1 a2 a3 a4 b0 b1 b2 b3 b4 c0 c1 c2 c3 c4 g0 g1 g2 g3 g4 in
     (out.0, out.1 ∙ sym (multiple (value a * value b) (weighed c0 c1 c2 c3 c4) (weighed (a1 * b4 + a2 * b3 + a3 * b2 + a4 * b1) (a2 * b4 + a3 * b3 + a4 * b2) (a3 * b4 + a4 * b3) (a4 * b4) 0) all))
-
--- limbs below a bound are below a higher one
-pub wider : (m n : ℕ) (a : List ℕ) → m ≤ n → AreBelow m a → AreBelow n a
-wider m n a h k = record { l0 = omega (arith, k.l0); l1 = omega (arith, k.l1); l2 = omega (arith, k.l2); l3 = omega (arith, k.l3); l4 = omega (arith, k.l4) }
 
 pub mul_value : (a b : List ℕ) → AreBelow (2 ^ 52) a → AreBelow (2 ^ 52) b
     → AreBelow (2 ^ 52) (mul a b) × (value (mul a b) % field ≡ value a * value b % field)
@@ -244,55 +216,49 @@ square_loose a h =
     let a3 : ℕ = slice_index a 3 in
     let a4 : ℕ = slice_index a 4 in
     let t0 : ℕ = mul64 a0 2 in
-    let u0 : t0 ≡ 2 * a0 = omega (arith, h.l0) in
-    let d0 : t0 < 2 ^ 55 = omega (arith, u0, h.l0) in
+    let u0 = times_small 2 (2 ^ 54) (2 ^ 55) a0 (omega arith) (omega arith) (omega arith) h.l0 in
     let t1 : ℕ = mul64 a1 2 in
-    let u1 : t1 ≡ 2 * a1 = omega (arith, h.l1) in
-    let d1 : t1 < 2 ^ 55 = omega (arith, u1, h.l1) in
+    let u1 = times_small 2 (2 ^ 54) (2 ^ 55) a1 (omega arith) (omega arith) (omega arith) h.l1 in
     let t2 : ℕ = mul64 a2 2 in
-    let u2 : t2 ≡ 2 * a2 = omega (arith, h.l2) in
-    let d2 : t2 < 2 ^ 55 = omega (arith, u2, h.l2) in
+    let u2 = times_small 2 (2 ^ 54) (2 ^ 55) a2 (omega arith) (omega arith) (omega arith) h.l2 in
     let s3 : ℕ = mul64 a3 19 in
-    let w3 : s3 ≡ 19 * a3 = omega (arith, h.l3) in
-    let z3 : s3 < 19 * 2 ^ 54 = omega (arith, w3, h.l3) in
+    let w3 = times_small 19 (2 ^ 54) (19 * 2 ^ 54) a3 (omega arith) (omega arith) (omega arith) h.l3 in
     let s4 : ℕ = mul64 a4 19 in
-    let w4 : s4 ≡ 19 * a4 = omega (arith, h.l4) in
-    let z4 : s4 < 19 * 2 ^ 54 = omega (arith, w4, h.l4) in
+    let w4 = times_small 19 (2 ^ 54) (19 * 2 ^ 54) a4 (omega arith) (omega arith) (omega arith) h.l4 in
     let r4 : ℕ = mul64 a4 38 in
-    let v4 : r4 ≡ 38 * a4 = omega (arith, h.l4) in
-    let y4 : r4 < 38 * 2 ^ 54 = omega (arith, v4, h.l4) in
+    let v4 = times_small 38 (2 ^ 54) (38 * 2 ^ 54) a4 (omega arith) (omega arith) (omega arith) h.l4 in
     let m00 : a0 * a0 < 2 ^ 108 = below a0 a0 (2 ^ 54) (2 ^ 54) h.l0 h.l0 in
-    let m14 : a1 * r4 < 38 * 2 ^ 108 = below a1 r4 (2 ^ 54) (38 * 2 ^ 54) h.l1 y4 in
-    let m23 : t2 * s3 < 38 * 2 ^ 108 = below t2 s3 (2 ^ 55) (19 * 2 ^ 54) d2 z3 in
-    let m01 : t0 * a1 < 2 ^ 109 = below t0 a1 (2 ^ 55) (2 ^ 54) d0 h.l1 in
-    let m24 : a2 * r4 < 38 * 2 ^ 108 = below a2 r4 (2 ^ 54) (38 * 2 ^ 54) h.l2 y4 in
-    let m33 : a3 * s3 < 19 * 2 ^ 108 = below a3 s3 (2 ^ 54) (19 * 2 ^ 54) h.l3 z3 in
-    let m02 : t0 * a2 < 2 ^ 109 = below t0 a2 (2 ^ 55) (2 ^ 54) d0 h.l2 in
+    let m14 : a1 * r4 < 38 * 2 ^ 108 = below a1 r4 (2 ^ 54) (38 * 2 ^ 54) h.l1 v4.1 in
+    let m23 : t2 * s3 < 38 * 2 ^ 108 = below t2 s3 (2 ^ 55) (19 * 2 ^ 54) u2.1 w3.1 in
+    let m01 : t0 * a1 < 2 ^ 109 = below t0 a1 (2 ^ 55) (2 ^ 54) u0.1 h.l1 in
+    let m24 : a2 * r4 < 38 * 2 ^ 108 = below a2 r4 (2 ^ 54) (38 * 2 ^ 54) h.l2 v4.1 in
+    let m33 : a3 * s3 < 19 * 2 ^ 108 = below a3 s3 (2 ^ 54) (19 * 2 ^ 54) h.l3 w3.1 in
+    let m02 : t0 * a2 < 2 ^ 109 = below t0 a2 (2 ^ 55) (2 ^ 54) u0.1 h.l2 in
     let m11 : a1 * a1 < 2 ^ 108 = below a1 a1 (2 ^ 54) (2 ^ 54) h.l1 h.l1 in
-    let m34 : a3 * r4 < 38 * 2 ^ 108 = below a3 r4 (2 ^ 54) (38 * 2 ^ 54) h.l3 y4 in
-    let m03 : t0 * a3 < 2 ^ 109 = below t0 a3 (2 ^ 55) (2 ^ 54) d0 h.l3 in
-    let m12 : t1 * a2 < 2 ^ 109 = below t1 a2 (2 ^ 55) (2 ^ 54) d1 h.l2 in
-    let m44 : a4 * s4 < 19 * 2 ^ 108 = below a4 s4 (2 ^ 54) (19 * 2 ^ 54) h.l4 z4 in
-    let m04 : t0 * a4 < 2 ^ 109 = below t0 a4 (2 ^ 55) (2 ^ 54) d0 h.l4 in
-    let m13 : t1 * a3 < 2 ^ 109 = below t1 a3 (2 ^ 55) (2 ^ 54) d1 h.l3 in
+    let m34 : a3 * r4 < 38 * 2 ^ 108 = below a3 r4 (2 ^ 54) (38 * 2 ^ 54) h.l3 v4.1 in
+    let m03 : t0 * a3 < 2 ^ 109 = below t0 a3 (2 ^ 55) (2 ^ 54) u0.1 h.l3 in
+    let m12 : t1 * a2 < 2 ^ 109 = below t1 a2 (2 ^ 55) (2 ^ 54) u1.1 h.l2 in
+    let m44 : a4 * s4 < 19 * 2 ^ 108 = below a4 s4 (2 ^ 54) (19 * 2 ^ 54) h.l4 w4.1 in
+    let m04 : t0 * a4 < 2 ^ 109 = below t0 a4 (2 ^ 55) (2 ^ 54) u0.1 h.l4 in
+    let m13 : t1 * a3 < 2 ^ 109 = below t1 a3 (2 ^ 55) (2 ^ 54) u1.1 h.l3 in
     let m22 : a2 * a2 < 2 ^ 108 = below a2 a2 (2 ^ 54) (2 ^ 54) h.l2 h.l2 in
     let f0 = three_value t2 s3 a0 a0 a1 r4 m23 (omega (arith, m00)) m14 in
     let f1 = three_value a3 s3 a2 r4 t0 a1 (omega (arith, m33)) m24 (omega (arith, m01)) in
     let f2 = three_value a3 r4 t0 a2 a1 a1 m34 (omega (arith, m02)) (omega (arith, m11)) in
     let f3 = three_value a4 s4 t0 a3 t1 a2 (omega (arith, m44)) (omega (arith, m03)) (omega (arith, m12)) in
     let f4 = three_value a2 a2 t0 a4 t1 a3 (omega (arith, m22)) (omega (arith, m04)) (omega (arith, m13)) in
-    let p01 : t0 * a1 ≡ 2 * a0 * a1 = ap (λ (n : ℕ). n * a1) u0 in
-    let p02 : t0 * a2 ≡ 2 * a0 * a2 = ap (λ (n : ℕ). n * a2) u0 in
-    let p03 : t0 * a3 ≡ 2 * a0 * a3 = ap (λ (n : ℕ). n * a3) u0 in
-    let p04 : t0 * a4 ≡ 2 * a0 * a4 = ap (λ (n : ℕ). n * a4) u0 in
-    let p12 : t1 * a2 ≡ 2 * a1 * a2 = ap (λ (n : ℕ). n * a2) u1 in
-    let p13 : t1 * a3 ≡ 2 * a1 * a3 = ap (λ (n : ℕ). n * a3) u1 in
-    let p14 : a1 * r4 ≡ a1 * (38 * a4) = ap (λ (n : ℕ). a1 * n) v4 in
-    let p23 : t2 * s3 ≡ 2 * a2 * (19 * a3) = ap₂ ◌*◌ u2 w3 in
-    let p24 : a2 * r4 ≡ a2 * (38 * a4) = ap (λ (n : ℕ). a2 * n) v4 in
-    let p33 : a3 * s3 ≡ a3 * (19 * a3) = ap (λ (n : ℕ). a3 * n) w3 in
-    let p34 : a3 * r4 ≡ a3 * (38 * a4) = ap (λ (n : ℕ). a3 * n) v4 in
-    let p44 : a4 * s4 ≡ a4 * (19 * a4) = ap (λ (n : ℕ). a4 * n) w4 in
+    let p01 : t0 * a1 ≡ 2 * a0 * a1 = ap (λ (n : ℕ). n * a1) u0.0 in
+    let p02 : t0 * a2 ≡ 2 * a0 * a2 = ap (λ (n : ℕ). n * a2) u0.0 in
+    let p03 : t0 * a3 ≡ 2 * a0 * a3 = ap (λ (n : ℕ). n * a3) u0.0 in
+    let p04 : t0 * a4 ≡ 2 * a0 * a4 = ap (λ (n : ℕ). n * a4) u0.0 in
+    let p12 : t1 * a2 ≡ 2 * a1 * a2 = ap (λ (n : ℕ). n * a2) u1.0 in
+    let p13 : t1 * a3 ≡ 2 * a1 * a3 = ap (λ (n : ℕ). n * a3) u1.0 in
+    let p14 : a1 * r4 ≡ a1 * (38 * a4) = ap (λ (n : ℕ). a1 * n) v4.0 in
+    let p23 : t2 * s3 ≡ 2 * a2 * (19 * a3) = ap₂ ◌*◌ u2.0 w3.0 in
+    let p24 : a2 * r4 ≡ a2 * (38 * a4) = ap (λ (n : ℕ). a2 * n) v4.0 in
+    let p33 : a3 * s3 ≡ a3 * (19 * a3) = ap (λ (n : ℕ). a3 * n) w3.0 in
+    let p34 : a3 * r4 ≡ a3 * (38 * a4) = ap (λ (n : ℕ). a3 * n) v4.0 in
+    let p44 : a4 * s4 ≡ a4 * (19 * a4) = ap (λ (n : ℕ). a4 * n) w4.0 in
     let c0 : ℕ = three t2 s3 a0 a0 a1 r4 in
     let g0 : c0 ≡ a0 * a0 + 19 * (a1 * a4) + 19 * (a2 * a3) + 19 * (a3 * a2) + 19 * (a4 * a1) = omega (arith, f0, p14, p23) in
     let n0 : c0 < 96 * 2 ^ 108 = omega (arith, f0, m00, m14, m23) in
@@ -352,14 +318,14 @@ pub record AreTight (a : List ℕ) : Type 0 where
   pub l3 : slice_index a 3 < 2 ^ 51
   pub l4 : slice_index a 4 < 2 ^ 51
 
-below_tight : (a : List ℕ) → AreTight a → AreBelow (2 ^ 52) a
+pub below_tight : (a : List ℕ) → AreTight a → AreBelow (2 ^ 52) a
 below_tight a h = record { l0 = h.l0; l1 = omega (arith, h.l1); l2 = omega (arith, h.l2); l3 = omega (arith, h.l3); l4 = omega (arith, h.l4) }
 
-pub least : (x : ℕ) → x % 2 ^ 51 < 2 ^ 51
-least x = omega arith
+limb_carry : (c e : ℕ) → c < 2 ^ 56 → e < 2 ^ 57 → (add64 c (e / 2 ^ 51) ≡ c + e / 2 ^ 51) × (add64 c (e / 2 ^ 51) < 2 ^ 57)
+limb_carry c e h k = (omega arith, omega arith)
 
-lowered : (v r0 r1 r2 r3 r4 q d0 : ℕ) → v ≡ weighed r0 r1 r2 r3 r4 + (field + 19) * q → d0 ≡ r0 + 19 * q → v ≡ weighed d0 r1 r2 r3 r4 + field * q
-lowered v r0 r1 r2 r3 r4 q d0 e k = omega arith
+limb_returned : (c e : ℕ) → e < 2 ^ 57 → (add64 (c % 2 ^ 51) (mul64 (e / 2 ^ 51) 19) ≡ c % 2 ^ 51 + 19 * (e / 2 ^ 51)) × (add64 (c % 2 ^ 51) (mul64 (e / 2 ^ 51) 19) < 2 ^ 52)
+limb_returned c e h = (omega arith, omega arith)
 
 -- sums below 2^56 are carried by one pass
 module _ (c0 c1 c2 c3 c4 : ℕ) (h0 : c0 < 2 ^ 56) (h1 : c1 < 2 ^ 56) (h2 : c2 < 2 ^ 56) (h3 : c3 < 2 ^ 56) (h4 : c4 < 2 ^ 56) where
@@ -371,22 +337,13 @@ module _ (c0 c1 c2 c3 c4 : ℕ) (h0 : c0 < 2 ^ 56) (h1 : c1 < 2 ^ 56) (h2 : c2 <
       let e3 : ℕ = add64 c3 (e2 / 2 ^ 51) in
       let e4 : ℕ = add64 c4 (e3 / 2 ^ 51) in
       let d0 : ℕ = add64 (c0 % 2 ^ 51) (mul64 (e4 / 2 ^ 51) 19) in
-      let w1 : e1 ≡ c1 + c0 / 2 ^ 51 = whole64 c1 (c0 / 2 ^ 51) (omega (arith, h1)) (omega (arith, h0)) in
-      let b1 : e1 < 2 ^ 57 = omega (arith, w1, h0, h1) in
-      let w2 : e2 ≡ c2 + e1 / 2 ^ 51 = whole64 c2 (e1 / 2 ^ 51) (omega (arith, h2)) (omega (arith, b1)) in
-      let b2 : e2 < 2 ^ 57 = omega (arith, w2, h2, b1) in
-      let w3 : e3 ≡ c3 + e2 / 2 ^ 51 = whole64 c3 (e2 / 2 ^ 51) (omega (arith, h3)) (omega (arith, b2)) in
-      let b3 : e3 < 2 ^ 57 = omega (arith, w3, h3, b2) in
-      let w4 : e4 ≡ c4 + e3 / 2 ^ 51 = whole64 c4 (e3 / 2 ^ 51) (omega (arith, h4)) (omega (arith, b3)) in
-      let b4 : e4 < 2 ^ 57 = omega (arith, w4, h4, b3) in
-      let m : mul64 (e4 / 2 ^ 51) 19 ≡ 19 * (e4 / 2 ^ 51) = omega (arith, b4) in
-      let n : 19 * (e4 / 2 ^ 51) < 2 ^ 11 = omega (arith, b4) in
-      let x0 : d0 ≡ c0 % 2 ^ 51 + 19 * (e4 / 2 ^ 51) = whole64 (c0 % 2 ^ 51) (mul64 (e4 / 2 ^ 51) 19) (omega arith) (omega (arith, m, n)) ∙ ap (λ (k : ℕ). c0 % 2 ^ 51 + k) m in
-      let first_pass = pass c0 c1 c2 c3 c4 (c0 / 2 ^ 51) (e1 / 2 ^ 51) (e2 / 2 ^ 51) (e3 / 2 ^ 51) (e4 / 2 ^ 51) (c0 % 2 ^ 51) (e1 % 2 ^ 51) (e2 % 2 ^ 51) (e3 % 2 ^ 51) (e4 % 2 ^ 51)
-      (parts c0) (sym w1 ∙ parts e1) (sym w2 ∙ parts e2) (sym w3 ∙ parts e3) (sym w4 ∙ parts e4) in
-      let all = lowered (weighed c0 c1 c2 c3 c4) (c0 % 2 ^ 51) (e1 % 2 ^ 51) (e2 % 2 ^ 51) (e3 % 2 ^ 51) (e4 % 2 ^ 51) (e4 / 2 ^ 51) d0 first_pass x0 in (
-        record { l0 = omega (arith, x0, n); l1 = least e1; l2 = least e2; l3 = least e3; l4 = least e4 },
-        sym (multiple (weighed c0 c1 c2 c3 c4) (weighed d0 (e1 % 2 ^ 51) (e2 % 2 ^ 51) (e3 % 2 ^ 51) (e4 % 2 ^ 51)) (e4 / 2 ^ 51) all),
+      let w1 = limb_carry c1 c0 h1 (omega (arith, h0)) in
+      let w2 = limb_carry c2 e1 h2 w1.1 in
+      let w3 = limb_carry c3 e2 h3 w2.1 in
+      let w4 = limb_carry c4 e3 h4 w3.1 in
+      let x0 = limb_returned c0 e4 w4.1 in (
+        record { l0 = x0.1; l1 = least e1; l2 = least e2; l3 = least e3; l4 = least e4 },
+        passed (2 ^ 51) 19 (2 ^ 53) (2 ^ 255) field weighed radix c0 c1 c2 c3 c4 e1 e2 e3 e4 d0 w1.0 w2.0 w3.0 w4.0 x0.0,
       )
 
 limbs_added : (m n top x y : ℕ) → m + n ≤ top → top ≤ 2 ^ 54 → x < m → y < n → (add64 x y ≡ x + y) × (add64 x y < top)

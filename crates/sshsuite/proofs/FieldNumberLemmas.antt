@@ -7,7 +7,8 @@ use Rattle.sshsuite.specs.Bits.{number_of_32}
 use Rattle.sshsuite.specs.FieldElement.{add, decode, eleventh, encode, inverse, loose_difference, loose_sum, mul, none, one, root_power, scaled, squared, squares, sub, to_50, to_250}
 use Rattle.sshsuite.proofs.EncodingLemmas.{decode_value, encode_value}
 use Rattle.sshsuite.proofs.WordLemmas.{AreWords}
-use Rattle.sshsuite.proofs.FieldLemmas.{add_value, difference_loose, mul_loose, multiple, scaled_loose, square_loose, sub_value, sum_loose, tight, wider}
+use Rattle.sshsuite.proofs.FieldLemmas.{add_value, difference_loose, mul_loose, multiple, scaled_loose, square_loose, sub_value, sum_loose, tight}
+use Rattle.sshsuite.proofs.LimbLemmas.{wider}
 use Rattle.sshsuite.specs.FieldBytes.{bytes_of_number}
 use Rattle.sshsuite.specs.FieldNumbers.{HasNumber, minus, plus, power, reciprocal, times}
 use Rattle.sshsuite.specs.FieldValues.{AreBelow, field, value}

@@ -1,7 +1,6 @@
 -- The code computes Poly1305 in numbers.
 
 use Rattle.std.proofs.Common.{◌≡◌, ℕ, zero, suc, ◌+◌, ◌-◌, ◌*◌, ◌/◌, ◌%◌, ◌^◌, ◌<◌, ◌≤◌, Bool, true, false, List, ◌∷◌, ◌++◌, length, refl, sym, ap, ap₂, ◌∙◌, arith, cond, eqb}
-use Rattle.std.proofs.Math.Nat.{mul-le-mul_left}
 use Rattle.std.proofs.lemmas.Nat.{and_le_r}
 use Rattle.std.specs.Int.{w128, to_le_bytes}
 use Rattle.std.specs.Int.Bits.{or_zero_r}
@@ -10,9 +9,9 @@ use Rattle.sshwire.specs.ByteLaws.{bytes_append, bytes_cons, bytes_dropped, byte
 use Rattle.sshwire.specs.Types.{IsBytes}
 use Rattle.sshsuite.specs.Bits.{word_at}
 use Rattle.sshsuite.specs.FieldValues.{AreBelow}
-use Rattle.sshsuite.specs.Limbs.{add64, mul64, reduced_once}
+use Rattle.sshsuite.specs.Limbs.{add64, mul64}
 use Rattle.sshsuite.specs.Poly1305.{accumulated, add, block_at, block_limbs, canonical, carried, clamped_r, dot, limbs_of, mul, packed, s_of, sum_to, tag_of}
-use Rattle.sshsuite.proofs.LimbLemmas.{at_places, folded, whole64}
+use Rattle.sshsuite.proofs.LimbLemmas.{IsRadix, at_places, dotted, folded, passed, reduced_value, times_small, whole64, wider}
 use Rattle.sshsuite.proofs.WordLemmas.{or_high, word_low, zero_bytes}
 use Rattle.sshsuite.specs.PolyNumbers.{accumulator, block_number, mac, modulus, number_of_16, r_number, s_number}
 
@@ -61,13 +60,43 @@ topped_limbs low high h k =
     )
 
 -- Carries.
-parts : (x : ℕ) → x ≡ 2 ^ 26 * (x / 2 ^ 26) + x % 2 ^ 26
-parts x = omega arith
+settled : (v r s over top : ℕ) → v + 5 ≡ r + 2 ^ 130 * over → r < 2 ^ 130 → v + 5 * over ≡ s + 2 ^ 130 * top → s < 2 ^ 130 → v < 2 * modulus → s ≡ v % modulus
+settled v r s zero top e h f k low = omega arith
+settled v r s (suc zero) top e h f k low = omega arith
+settled v r s (suc (suc over)) top e h f k low = absurd (omega arith)
 
-pass : (c0 c1 c2 c3 c4 q0 q1 q2 q3 q4 r0 r1 r2 r3 r4 d0 f1 : ℕ) → c0 ≡ 2 ^ 26 * q0 + r0 → c1 + q0 ≡ 2 ^ 26 * q1 + r1 → c2 + q1 ≡ 2 ^ 26 * q2 + r2
-    → c3 + q2 ≡ 2 ^ 26 * q3 + r3 → c4 + q3 ≡ 2 ^ 26 * q4 + r4 → d0 ≡ r0 + 5 * q4 → f1 ≡ r1 + d0 / 2 ^ 26
-    → weighed c0 c1 c2 c3 c4 ≡ weighed (d0 % 2 ^ 26) f1 r2 r3 r4 + modulus * q4
-pass c0 c1 c2 c3 c4 q0 q1 q2 q3 q4 r0 r1 r2 r3 r4 d0 f1 e0 e1 e2 e3 e4 e5 e6 = omega arith
+chain : (l0 l1 l2 l3 l4 first q0 q1 q2 q3 q4 r0 r1 r2 r3 r4 : ℕ) → l0 + first ≡ 2 ^ 26 * q0 + r0 → l1 + q0 ≡ 2 ^ 26 * q1 + r1 → l2 + q1 ≡ 2 ^ 26 * q2 + r2
+    → l3 + q2 ≡ 2 ^ 26 * q3 + r3 → l4 + q3 ≡ 2 ^ 26 * q4 + r4 → weighed l0 l1 l2 l3 l4 + first ≡ weighed r0 r1 r2 r3 r4 + 2 ^ 130 * q4
+chain l0 l1 l2 l3 l4 first q0 q1 q2 q3 q4 r0 r1 r2 r3 r4 e0 e1 e2 e3 e4 = omega arith
+
+bounded : (l0 l1 l2 l3 l4 : ℕ) → l0 < 2 ^ 26 → l1 < 2 ^ 26 → l2 < 2 ^ 26 → l3 < 2 ^ 26 → l4 < 2 ^ 26 → weighed l0 l1 l2 l3 l4 < 2 ^ 130
+bounded l0 l1 l2 l3 l4 h0 h1 h2 h3 h4 = omega arith
+
+radix : IsRadix (2 ^ 26) 5 (2 ^ 28) (2 ^ 130) modulus weighed
+radix = record {
+  eight = omega arith;
+  first = omega arith;
+  rest = low26;
+  parted = λ x y h k. (omega arith, omega arith);
+  times = λ n h. (omega arith, omega arith);
+  chain = chain;
+  lowest = λ l0 l1 l2 l3 l4 first. omega arith;
+  beyond = refl;
+  bounded = bounded;
+  settled = settled;
+}
+
+limb_carry : (c e : ℕ) → c < 2 ^ 61 → e < 2 ^ 62 → (add64 c (e / 2 ^ 26) ≡ c + e / 2 ^ 26) × (add64 c (e / 2 ^ 26) < 2 ^ 62)
+limb_carry c e h k = (omega arith, omega arith)
+
+returned : (c e : ℕ) → e < 2 ^ 62 → (add64 (c % 2 ^ 26) (mul64 (e / 2 ^ 26) 5) ≡ c % 2 ^ 26 + 5 * (e / 2 ^ 26)) × (add64 (c % 2 ^ 26) (mul64 (e / 2 ^ 26) 5) < 2 ^ 39)
+returned c e h = (omega arith, omega arith)
+
+last_carry : (e d : ℕ) → d < 2 ^ 39 → (add64 (e % 2 ^ 26) (d / 2 ^ 26) ≡ e % 2 ^ 26 + d / 2 ^ 26) × (add64 (e % 2 ^ 26) (d / 2 ^ 26) ≤ 2 ^ 26 + 2 ^ 13)
+last_carry e d h = (omega arith, omega arith)
+
+together : (d0 d1 r1 r2 r3 r4 : ℕ) → d1 ≡ r1 + d0 / 2 ^ 26 → weighed (d0 % 2 ^ 26) d1 r2 r3 r4 ≡ weighed d0 r1 r2 r3 r4
+together d0 d1 r1 r2 r3 r4 e = omega arith
 
 multiple : (x y q : ℕ) → x ≡ y + modulus * q → x % modulus ≡ y % modulus
 multiple x y q e = omega arith
@@ -91,59 +120,24 @@ module _ (a : List ℕ) (h : AreBelow (2 ^ 61) a) where
       let e4 : ℕ = add64 (slice_index a 4) (e3 / 2 ^ 26) in
       let d0 : ℕ = add64 (c0 % 2 ^ 26) (mul64 (e4 / 2 ^ 26) 5) in
       let f1 : ℕ = add64 (e1 % 2 ^ 26) (d0 / 2 ^ 26) in
-      let w1 : e1 ≡ slice_index a 1 + c0 / 2 ^ 26 = whole64 (slice_index a 1) (c0 / 2 ^ 26) (omega (arith, h.l1)) (omega (arith, h.l0)) in
-      let b1 : e1 < 2 ^ 62 = omega (arith, w1, h.l0, h.l1) in
-      let w2 : e2 ≡ slice_index a 2 + e1 / 2 ^ 26 = whole64 (slice_index a 2) (e1 / 2 ^ 26) (omega (arith, h.l2)) (omega (arith, b1)) in
-      let b2 : e2 < 2 ^ 62 = omega (arith, w2, h.l2, b1) in
-      let w3 : e3 ≡ slice_index a 3 + e2 / 2 ^ 26 = whole64 (slice_index a 3) (e2 / 2 ^ 26) (omega (arith, h.l3)) (omega (arith, b2)) in
-      let b3 : e3 < 2 ^ 62 = omega (arith, w3, h.l3, b2) in
-      let w4 : e4 ≡ slice_index a 4 + e3 / 2 ^ 26 = whole64 (slice_index a 4) (e3 / 2 ^ 26) (omega (arith, h.l4)) (omega (arith, b3)) in
-      let b4 : e4 < 2 ^ 62 = omega (arith, w4, h.l4, b3) in
-      let m : mul64 (e4 / 2 ^ 26) 5 ≡ 5 * (e4 / 2 ^ 26) = omega (arith, b4) in
-      let n : 5 * (e4 / 2 ^ 26) < 2 ^ 39 - 2 ^ 26 = omega (arith, b4) in
-      let x0 : d0 ≡ c0 % 2 ^ 26 + 5 * (e4 / 2 ^ 26) = whole64 (c0 % 2 ^ 26) (mul64 (e4 / 2 ^ 26) 5) (omega arith) (omega (arith, m, n)) ∙ ap (λ (k : ℕ). c0 % 2 ^ 26 + k) m in
-      let y0 : d0 < 2 ^ 39 = omega (arith, x0, n) in
-      let x1 : f1 ≡ e1 % 2 ^ 26 + d0 / 2 ^ 26 = whole64 (e1 % 2 ^ 26) (d0 / 2 ^ 26) (omega arith) (omega (arith, y0)) in
-      let all = pass c0 (slice_index a 1) (slice_index a 2) (slice_index a 3) (slice_index a 4) (c0 / 2 ^ 26) (e1 / 2 ^ 26) (e2 / 2 ^ 26) (e3 / 2 ^ 26) (e4 / 2 ^ 26)
-      (c0 % 2 ^ 26) (e1 % 2 ^ 26) (e2 % 2 ^ 26) (e3 % 2 ^ 26) (e4 % 2 ^ 26) d0 f1
-      (parts c0) (sym w1 ∙ parts e1) (sym w2 ∙ parts e2) (sym w3 ∙ parts e3) (sym w4 ∙ parts e4) x0 x1 in (
-        record { l0 = low26 d0; l1 = omega (arith, x1, y0); l2 = low26 e2; l3 = low26 e3; l4 = low26 e4 },
-        sym (multiple (value a) (weighed (d0 % 2 ^ 26) f1 (e2 % 2 ^ 26) (e3 % 2 ^ 26) (e4 % 2 ^ 26)) (e4 / 2 ^ 26) all),
+      let w1 = limb_carry (slice_index a 1) c0 h.l1 (omega (arith, h.l0)) in
+      let w2 = limb_carry (slice_index a 2) e1 h.l2 w1.1 in
+      let w3 = limb_carry (slice_index a 3) e2 h.l3 w2.1 in
+      let w4 = limb_carry (slice_index a 4) e3 h.l4 w3.1 in
+      let x0 = returned c0 e4 w4.1 in
+      let x1 = last_carry e1 d0 x0.1 in
+      let all = passed (2 ^ 26) 5 (2 ^ 28) (2 ^ 130) modulus weighed radix c0 (slice_index a 1) (slice_index a 2) (slice_index a 3) (slice_index a 4) e1 e2 e3 e4 d0 w1.0 w2.0 w3.0 w4.0 x0.0 in (
+        record { l0 = low26 d0; l1 = x1.1; l2 = low26 e2; l3 = low26 e3; l4 = low26 e4 },
+        ap (λ (n : ℕ). n % modulus) (together d0 f1 (e1 % 2 ^ 26) (e2 % 2 ^ 26) (e3 % 2 ^ 26) (e4 % 2 ^ 26) x1.0) ∙ all,
       )
 
 -- Products.
-below : (a b : ℕ) → a < 2 ^ 28 → b < 2 ^ 29 → a * b < 2 ^ 57
-below a b h k = let m : a * b ≤ a * 2 ^ 29 = mul-le-mul_left a (omega arith) in omega (arith, m)
-
--- five products
-sums : (x0 x1 x2 x3 x4 : ℕ) → x0 < 2 ^ 57 → x1 < 2 ^ 57 → x2 < 2 ^ 57 → x3 < 2 ^ 57 → x4 < 2 ^ 57
-    → add64 (add64 (add64 (add64 (x0 % 2 ^ 64) (x1 % 2 ^ 64)) (x2 % 2 ^ 64)) (x3 % 2 ^ 64)) (x4 % 2 ^ 64) ≡ x0 + x1 + x2 + x3 + x4
-sums x0 x1 x2 x3 x4 h0 h1 h2 h3 h4 =
-    let s0 : x0 % 2 ^ 64 ≡ x0 = omega (arith, h0) in
-    let s1 : x1 % 2 ^ 64 ≡ x1 = omega (arith, h1) in
-    let s2 : x2 % 2 ^ 64 ≡ x2 = omega (arith, h2) in
-    let s3 : x3 % 2 ^ 64 ≡ x3 = omega (arith, h3) in
-    let s4 : x4 % 2 ^ 64 ≡ x4 = omega (arith, h4) in
-    let t1 : add64 (x0 % 2 ^ 64) (x1 % 2 ^ 64) ≡ x0 + x1 = whole64 (x0 % 2 ^ 64) (x1 % 2 ^ 64) (omega (arith, s0, h0)) (omega (arith, s1, h1)) ∙ omega (arith, s0, s1) in
-    let t2 : add64 (add64 (x0 % 2 ^ 64) (x1 % 2 ^ 64)) (x2 % 2 ^ 64) ≡ x0 + x1 + x2
-    = whole64 (add64 (x0 % 2 ^ 64) (x1 % 2 ^ 64)) (x2 % 2 ^ 64) (omega (arith, t1, h0, h1)) (omega (arith, s2, h2)) ∙ omega (arith, t1, s2) in
-    let t3 : add64 (add64 (add64 (x0 % 2 ^ 64) (x1 % 2 ^ 64)) (x2 % 2 ^ 64)) (x3 % 2 ^ 64) ≡ x0 + x1 + x2 + x3
-    = whole64 (add64 (add64 (x0 % 2 ^ 64) (x1 % 2 ^ 64)) (x2 % 2 ^ 64)) (x3 % 2 ^ 64) (omega (arith, t2, h0, h1, h2)) (omega (arith, s3, h3)) ∙ omega (arith, t2, s3) in
-    whole64 (add64 (add64 (add64 (x0 % 2 ^ 64) (x1 % 2 ^ 64)) (x2 % 2 ^ 64)) (x3 % 2 ^ 64)) (x4 % 2 ^ 64) (omega (arith, t3, h0, h1, h2, h3)) (omega (arith, s4, h4))
-    ∙ omega (arith, t3, s4)
-
 dot_value : (a b : List ℕ) → AreBelow (2 ^ 28) a → AreBelow (2 ^ 29) b
     → (dot a b ≡ at_places a b) × (dot a b < 2 ^ 61)
 unfolding dot
 dot_value a b h k =
-    let m0 : slice_index a 0 * slice_index b 0 < 2 ^ 57 = below (slice_index a 0) (slice_index b 0) h.l0 k.l0 in
-    let m1 : slice_index a 1 * slice_index b 1 < 2 ^ 57 = below (slice_index a 1) (slice_index b 1) h.l1 k.l1 in
-    let m2 : slice_index a 2 * slice_index b 2 < 2 ^ 57 = below (slice_index a 2) (slice_index b 2) h.l2 k.l2 in
-    let m3 : slice_index a 3 * slice_index b 3 < 2 ^ 57 = below (slice_index a 3) (slice_index b 3) h.l3 k.l3 in
-    let m4 : slice_index a 4 * slice_index b 4 < 2 ^ 57 = below (slice_index a 4) (slice_index b 4) h.l4 k.l4 in
-    let is = sums (slice_index a 0 * slice_index b 0) (slice_index a 1 * slice_index b 1) (slice_index a 2 * slice_index b 2)
-    (slice_index a 3 * slice_index b 3) (slice_index a 4 * slice_index b 4) m0 m1 m2 m3 m4 in
-    (is, omega (arith, is, m0, m1, m2, m3, m4))
+    let sum = dotted (2 ^ 64) (2 ^ 28) (2 ^ 29) a b (omega arith) h k in
+    (sum.0, omega (arith, sum.0, sum.1))
 
 -- the product of two numbers by limbs
 expand : (a0 a1 a2 a3 a4 b0 b1 b2 b3 b4 c0 c1 c2 c3 c4 : ℕ)
@@ -169,24 +163,15 @@ mul_value a b h k =
     let b2 : ℕ = slice_index b 2 in
     let b3 : ℕ = slice_index b 3 in
     let b4 : ℕ = slice_index b 4 in
-    let k0 : b0 < 2 ^ 29 = omega (arith, k.l0) in
-    let k1 : b1 < 2 ^ 29 = omega (arith, k.l1) in
-    let k2 : b2 < 2 ^ 29 = omega (arith, k.l2) in
-    let k3 : b3 < 2 ^ 29 = omega (arith, k.l3) in
-    let k4 : b4 < 2 ^ 29 = omega (arith, k.l4) in
     let s1 : ℕ = mul64 b1 5 in
-    let w1 : s1 ≡ 5 * b1 = omega (arith, k.l1) in
-    let z1 : s1 < 2 ^ 29 = omega (arith, w1, k.l1) in
+    let w1 = times_small 5 (2 ^ 26) (2 ^ 29) b1 (omega arith) (omega arith) (omega arith) k.l1 in
     let s2 : ℕ = mul64 b2 5 in
-    let w2 : s2 ≡ 5 * b2 = omega (arith, k.l2) in
-    let z2 : s2 < 2 ^ 29 = omega (arith, w2, k.l2) in
+    let w2 = times_small 5 (2 ^ 26) (2 ^ 29) b2 (omega arith) (omega arith) (omega arith) k.l2 in
     let s3 : ℕ = mul64 b3 5 in
-    let w3 : s3 ≡ 5 * b3 = omega (arith, k.l3) in
-    let z3 : s3 < 2 ^ 29 = omega (arith, w3, k.l3) in
+    let w3 = times_small 5 (2 ^ 26) (2 ^ 29) b3 (omega arith) (omega arith) (omega arith) k.l3 in
     let s4 : ℕ = mul64 b4 5 in
-    let w4 : s4 ≡ 5 * b4 = omega (arith, k.l4) in
-    let z4 : s4 < 2 ^ 29 = omega (arith, w4, k.l4) in
-    let both = folded 5 (2 ^ 28) (2 ^ 29) (2 ^ 61) dot dot_value a b s1 s2 s3 s4 h (record { l0 = k0; l1 = k1; l2 = k2; l3 = k3; l4 = k4 }) w1 w2 w3 w4 z1 z2 z3 z4 in
+    let w4 = times_small 5 (2 ^ 26) (2 ^ 29) b4 (omega arith) (omega arith) (omega arith) k.l4 in
+    let both = folded 5 (2 ^ 28) (2 ^ 29) (2 ^ 61) dot dot_value a b s1 s2 s3 s4 h (wider (2 ^ 26) (2 ^ 29) b (omega arith) k) w1.0 w2.0 w3.0 w4.0 w1.1 w2.1 w3.1 w4.1 in
     let out = carried_value _ both.1 in
     let all = expand a0 a1 a2 a3 a4 b0 b1 b2 b3 b4 _ _ _ _ _ both.0.p0 both.0.p1 both.0.p2 both.0.p3 both.0.p4 in
     (out.0, out.1 ∙ sym (multiple (value a * value b) _ (weighed (a1 * b4 + a2 * b3 + a3 * b2 + a4 * b1) (a2 * b4 + a3 * b3 + a4 * b2) (a3 * b4 + a4 * b3) (a4 * b4) 0) all))
@@ -258,72 +243,15 @@ r_value key =
     (omega (arith, and_le_r (word_at key 0) 0x0ffffffc0fffffff)) (omega (arith, and_le_r (word_at key 8) 0x0ffffffc0ffffffc))
 
 -- The last subtraction.
-settled : (v r s over top : ℕ) → v + 5 ≡ r + 2 ^ 130 * over → r < 2 ^ 130 → v + 5 * over ≡ s + 2 ^ 130 * top → s < 2 ^ 130 → v < 2 * modulus → s ≡ v % modulus
-settled v r s zero top e h f k low = omega arith
-settled v r s (suc zero) top e h f k low = omega arith
-settled v r s (suc (suc over)) top e h f k low = absurd (omega arith)
-
-chain : (l0 l1 l2 l3 l4 first q0 q1 q2 q3 q4 r0 r1 r2 r3 r4 : ℕ) → l0 + first ≡ 2 ^ 26 * q0 + r0 → l1 + q0 ≡ 2 ^ 26 * q1 + r1 → l2 + q1 ≡ 2 ^ 26 * q2 + r2
-    → l3 + q2 ≡ 2 ^ 26 * q3 + r3 → l4 + q3 ≡ 2 ^ 26 * q4 + r4 → weighed l0 l1 l2 l3 l4 + first ≡ weighed r0 r1 r2 r3 r4 + 2 ^ 130 * q4
-chain l0 l1 l2 l3 l4 first q0 q1 q2 q3 q4 r0 r1 r2 r3 r4 e0 e1 e2 e3 e4 = omega arith
-
-sum64 : (x y : ℕ) → x < 2 ^ 28 → y < 2 ^ 28 → x + y ≡ 2 ^ 26 * (add64 x y / 2 ^ 26) + add64 x y % 2 ^ 26
-sum64 x y h k = omega arith
-
-over_low : (x y : ℕ) → x < 2 ^ 28 → y < 2 ^ 28 → add64 x y / 2 ^ 26 < 8
-over_low x y h k = omega arith
-
-bounded : (l0 l1 l2 l3 l4 : ℕ) → l0 < 2 ^ 26 → l1 < 2 ^ 26 → l2 < 2 ^ 26 → l3 < 2 ^ 26 → l4 < 2 ^ 26 → weighed l0 l1 l2 l3 l4 < 2 ^ 130
-bounded l0 l1 l2 l3 l4 h0 h1 h2 h3 h4 = omega arith
-
 carried_low : (l0 l1 l2 l3 l4 : ℕ) → l0 < 2 ^ 26 → l1 ≤ 2 ^ 26 + 2 ^ 13 → l2 < 2 ^ 26 → l3 < 2 ^ 26 → l4 < 2 ^ 26 → weighed l0 l1 l2 l3 l4 < 2 * modulus
 carried_low l0 l1 l2 l3 l4 h0 h1 h2 h3 h4 = omega arith
 
 canonical_value : (l : List ℕ) → AreCarried (2 ^ 26 + 2 ^ 13) l → AreBelow (2 ^ 26) (canonical l) × (value (canonical l) ≡ value l % modulus)
-unfolding canonical reduced_once
+unfolding canonical
 canonical_value l h =
-    let l0 : ℕ = slice_index l 0 in
-    let l1 : ℕ = slice_index l 1 in
-    let l2 : ℕ = slice_index l 2 in
-    let l3 : ℕ = slice_index l 3 in
-    let l4 : ℕ = slice_index l 4 in
-    let k0 : l0 < 2 ^ 28 = omega (arith, h.l0) in
-    let k1 : l1 < 2 ^ 28 = omega (arith, h.l1) in
-    let k2 : l2 < 2 ^ 28 = omega (arith, h.l2) in
-    let k3 : l3 < 2 ^ 28 = omega (arith, h.l3) in
-    let k4 : l4 < 2 ^ 28 = omega (arith, h.l4) in
-    let o0 : ℕ = add64 l0 5 / 2 ^ 26 in
-    let p0 : o0 < 2 ^ 28 = omega (arith, over_low l0 5 k0 (omega arith)) in
-    let o1 : ℕ = add64 l1 o0 / 2 ^ 26 in
-    let p1 : o1 < 2 ^ 28 = omega (arith, over_low l1 o0 k1 p0) in
-    let o2 : ℕ = add64 l2 o1 / 2 ^ 26 in
-    let p2 : o2 < 2 ^ 28 = omega (arith, over_low l2 o1 k2 p1) in
-    let o3 : ℕ = add64 l3 o2 / 2 ^ 26 in
-    let p3 : o3 < 2 ^ 28 = omega (arith, over_low l3 o2 k3 p2) in
-    let over : ℕ = add64 l4 o3 / 2 ^ 26 in
-    let p4 : over < 8 = over_low l4 o3 k4 p3 in
-    let times : mul64 over 5 ≡ 5 * over = omega (arith, p4) in
-    let t0 : mul64 over 5 < 2 ^ 28 = omega (arith, times, p4) in
-    let m0 : ℕ = add64 l0 (mul64 over 5) in
-    let q0 : m0 / 2 ^ 26 < 2 ^ 28 = omega (arith, over_low l0 (mul64 over 5) k0 t0) in
-    let m1 : ℕ = add64 l1 (m0 / 2 ^ 26) in
-    let q1 : m1 / 2 ^ 26 < 2 ^ 28 = omega (arith, over_low l1 (m0 / 2 ^ 26) k1 q0) in
-    let m2 : ℕ = add64 l2 (m1 / 2 ^ 26) in
-    let q2 : m2 / 2 ^ 26 < 2 ^ 28 = omega (arith, over_low l2 (m1 / 2 ^ 26) k2 q1) in
-    let m3 : ℕ = add64 l3 (m2 / 2 ^ 26) in
-    let q3 : m3 / 2 ^ 26 < 2 ^ 28 = omega (arith, over_low l3 (m2 / 2 ^ 26) k3 q2) in
-    let m4 : ℕ = add64 l4 (m3 / 2 ^ 26) in
-    let first = chain l0 l1 l2 l3 l4 5 o0 o1 o2 o3 over (add64 l0 5 % 2 ^ 26) (add64 l1 o0 % 2 ^ 26) (add64 l2 o1 % 2 ^ 26) (add64 l3 o2 % 2 ^ 26) (add64 l4 o3 % 2 ^ 26)
-    (sum64 l0 5 k0 (omega arith)) (sum64 l1 o0 k1 p0) (sum64 l2 o1 k2 p1) (sum64 l3 o2 k3 p2) (sum64 l4 o3 k4 p3) in
-    let second = chain l0 l1 l2 l3 l4 (mul64 over 5) (m0 / 2 ^ 26) (m1 / 2 ^ 26) (m2 / 2 ^ 26) (m3 / 2 ^ 26) (m4 / 2 ^ 26)
-    (m0 % 2 ^ 26) (m1 % 2 ^ 26) (m2 % 2 ^ 26) (m3 % 2 ^ 26) (m4 % 2 ^ 26)
-    (sum64 l0 (mul64 over 5) k0 t0) (sum64 l1 (m0 / 2 ^ 26) k1 q0) (sum64 l2 (m1 / 2 ^ 26) k2 q1) (sum64 l3 (m2 / 2 ^ 26) k3 q2) (sum64 l4 (m3 / 2 ^ 26) k4 q3) in
-    let below : AreBelow (2 ^ 26) (canonical l) = record { l0 = low26 m0; l1 = low26 m1; l2 = low26 m2; l3 = low26 m3; l4 = low26 m4 } in (
-      below,
-      settled (value l) (weighed (add64 l0 5 % 2 ^ 26) (add64 l1 o0 % 2 ^ 26) (add64 l2 o1 % 2 ^ 26) (add64 l3 o2 % 2 ^ 26) (add64 l4 o3 % 2 ^ 26)) (value (canonical l)) over (m4 / 2 ^ 26)
-          first (bounded _ _ _ _ _ (low26 _) (low26 _) (low26 _) (low26 _) (low26 _)) (ap (λ (n : ℕ). value l + n) (sym times) ∙ second)
-          (bounded _ _ _ _ _ below.l0 below.l1 below.l2 below.l3 below.l4) (carried_low l0 l1 l2 l3 l4 h.l0 h.l1 h.l2 h.l3 h.l4),
-    )
+    reduced_value (2 ^ 26) 5 (2 ^ 28) (2 ^ 130) modulus weighed radix l
+    (record { l0 = omega (arith, h.l0); l1 = omega (arith, h.l1); l2 = omega (arith, h.l2); l3 = omega (arith, h.l3); l4 = omega (arith, h.l4) })
+    (carried_low _ _ _ _ _ h.l0 h.l1 h.l2 h.l3 h.l4)
 
 -- Limbs to bytes.
 packed_value : (l : List ℕ) → AreBelow (2 ^ 26) l → packed l ≡ value l % 2 ^ 128
