@@ -2,7 +2,7 @@
 
 use Rattle.std.proofs.Common.{◌≡◌, ℕ, zero, suc, ◌+◌, ◌*◌, ◌/◌, ◌%◌, ◌^◌, ◌<◌, ◌≤◌, Bool, true, false, refl, sym, ap, ap₂, ◌∙◌, arith, cond, eqb}
 use Rattle.std.proofs.lemmas.Bool.{eqb-true}
-use Rattle.std.proofs.lemmas.Nat.{and_block, and_mask, pow-add, xor_block, xor_lt}
+use Rattle.std.proofs.lemmas.Nat.{and_block, and_mask, pow-add, xor_block, xor_lt, xor_mod, xor_shr}
 use Rattle.std.specs.Int.Bits.{and_zero_l, and_zero_r, xor_zero_l}
 use Rattle.std.specs.Prelude.{bit_and, bit_xor}
 use Rattle.sshsuite.specs.Aes.{chosen, doubled, doubled_by, highest_bits, inverse, mapped, others_raised, product, product_to, sub_bytes, turned}
@@ -40,6 +40,10 @@ unfolding block_of
 and_of zero f g h k = and_zero_l 0
 and_of (suc n) f g h k =
     and_block 8 (block_of n f) (block_of n g) (f n) (g n) (h n) (k n) ∙ ap (λ (m : ℕ). m * 2 ^ 8 + bit_and (f n) (g n)) (and_of n f g h k)
+
+-- one bit of a sum
+pub sum_at : (j a b : ℕ) → bit_xor a b / 2 ^ j % 2 ≡ bit_xor (a / 2 ^ j % 2) (b / 2 ^ j % 2)
+sum_at j a b = ap (λ (x : ℕ). x % 2 ^ 1) (xor_shr a b j) ∙ xor_mod (a / 2 ^ j) (b / 2 ^ j) 1
 
 -- a product with a number, byte by byte
 pub times : (c n : ℕ) (f : ℕ → ℕ) → block_of n f * c ≡ block_of n (λ i. f i * c)

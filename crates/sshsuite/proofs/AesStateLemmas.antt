@@ -7,8 +7,7 @@ use Rattle.std.specs.Int.Bits.{and_zero_r, or_zero_l, or_zero_r, xor_assoc, xor_
 use Rattle.std.specs.Prelude.{bit_and, bit_or, bit_xor, slice_index}
 use Rattle.sshsuite.specs.Aes.{after_rounds, cipher, last_round, mix_columns, number_at, round, shift_rows, turned_words}
 use Rattle.sshsuite.specs.AesBytes.{below_in_column, block_of, byte_product, byte_product_to, encrypted_state, mixed_column, s_box, shifted_row, state_after, with_key, xtime, xtime_by}
-use Rattle.sshsuite.proofs.AesLemmas.{AreBytes, IsBlock, and_of, below_power, doubled_block, either_byte, its_block, next_power, s_box_block, same_bytes, same_until, sum_block, xor_byte, xtime_is}
-use Rattle.sshsuite.proofs.CircuitLemmas.{sum_at}
+use Rattle.sshsuite.proofs.AesLemmas.{AreBytes, IsBlock, and_of, below_power, doubled_block, either_byte, its_block, next_power, s_box_block, same_bytes, same_until, sum_at, sum_block, xor_byte, xtime_is}
 use Rattle.sshsuite.proofs.LinearLemmas.{exchanged, raised}
 
 -- bits that one of two blocks has, byte by byte

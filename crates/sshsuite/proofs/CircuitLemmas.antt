@@ -1,11 +1,11 @@
 -- What keeps sums and products of bits keeps the circuit of the S-box: so it works on the bytes of a block at once, and on the bits of a byte.
 
 use Rattle.std.proofs.Common.{◌≡◌, ℕ, suc, ◌/◌, ◌%◌, ◌^◌, ◌<◌, Bool, true, false, List, [], ◌∷◌, refl, sym, ap, ap₂, ◌∙◌, arith, cond, eqb}
-use Rattle.std.proofs.lemmas.Nat.{and_mod, and_shr, xor_mod, xor_shr}
+use Rattle.std.proofs.lemmas.Nat.{and_mod, and_shr, xor_mod}
 use Rattle.std.specs.Prelude.{bit_and, bit_xor, slice_index}
 use Rattle.sshsuite.specs.AesBytes.{block_of}
 use Rattle.sshsuite.specs.SBox.{circuit}
-use Rattle.sshsuite.proofs.AesLemmas.{and_of, same_block, xor_of}
+use Rattle.sshsuite.proofs.AesLemmas.{and_of, same_block, sum_at, xor_of}
 use Rattle.sshsuite.proofs.ListOfEight.{each_of_8, eight}
 
 -- the block of numbers, of each its lowest 8 bits
@@ -29,10 +29,6 @@ block_and f g =
 -- the sum of two numbers that are blocks
 pub summed : (m n : ℕ) (a b : ℕ → ℕ) → m ≡ block a → n ≡ block b → bit_xor m n ≡ block (λ i. bit_xor (a i) (b i))
 summed m n a b e f = ap₂ bit_xor e f ∙ block_xor a b
-
--- one bit
-pub sum_at : (j a b : ℕ) → bit_xor a b / 2 ^ j % 2 ≡ bit_xor (a / 2 ^ j % 2) (b / 2 ^ j % 2)
-sum_at j a b = ap (λ (x : ℕ). x % 2 ^ 1) (xor_shr a b j) ∙ xor_mod (a / 2 ^ j) (b / 2 ^ j) 1
 
 -- one bit of a product
 product_at : (j a b : ℕ) → bit_and a b / 2 ^ j % 2 ≡ bit_and (a / 2 ^ j % 2) (b / 2 ^ j % 2)

@@ -7,9 +7,9 @@ use Rattle.sshsuite.specs.Aes.{cipher, shift_rows, turned_words}
 use Rattle.sshsuite.specs.AesBytes.{block_of, mixed_column, s_box, shifted_row, state_after, with_key, xtime}
 use Rattle.sshsuite.specs.SBox.{circuit}
 use Rattle.sshsuite.specs.SlicedAes.{eight_ciphers, exchanged, gathered, images, joined, key_planes, keyed, mixed_plane, mixed_planes, planes_after, shifted_planes, spread, turned_planes}
-use Rattle.sshsuite.proofs.AesLemmas.{AreBytes, its_block, s_box_block, same_block, xor_byte}
+use Rattle.sshsuite.proofs.AesLemmas.{AreBytes, its_block, s_box_block, same_block, sum_at, xor_byte}
 use Rattle.sshsuite.proofs.AesStateLemmas.{AreKeys, cipher_by_state, keyed_block, mixed_is, next, shifted_block, states_bytes, substituted, turned_words_block}
-use Rattle.sshsuite.proofs.CircuitLemmas.{block, block_xor, by_bits, by_bytes, sum_at, summed}
+use Rattle.sshsuite.proofs.CircuitLemmas.{block, block_xor, by_bits, by_bytes, summed}
 use Rattle.sshsuite.proofs.ListOfEight.{at_eight, each_of_8, eight, eight_same}
 use Rattle.sshsuite.proofs.SlicedLemmas.{byte_of, bytes_of, joined_are, of_bytes, plane_is, scaled, whole_block}
 use Rattle.sshsuite.proofs.SlicedSamples.{byte_joined, byte_planes, image_at, own_bits, xtime_first, xtime_next}
