@@ -7,16 +7,17 @@ use Rattle.std.specs.Int.Bits.{and_zero_r, or_zero_l, or_zero_r, xor_assoc, xor_
 use Rattle.std.specs.Prelude.{bit_and, bit_or, bit_xor, slice_index}
 use Rattle.sshsuite.specs.Aes.{after_rounds, cipher, last_round, mix_columns, number_at, round, shift_rows, turned_words}
 use Rattle.sshsuite.specs.AesBytes.{below_in_column, block_of, byte_product, byte_product_to, encrypted_state, mixed_column, s_box, shifted_row, state_after, with_key, xtime, xtime_by}
-use Rattle.sshsuite.proofs.AesLemmas.{AreBytes, IsBlock, and_of, below_power, doubled_block, either_byte, its_block, next_power, s_box_block, same_bytes, same_until, sum_block, xor_byte, xtime_is}
-use Rattle.sshsuite.proofs.CircuitLemmas.{sum_at}
+use Rattle.sshsuite.proofs.AesLemmas.{AreBytes, IsBlock, and_of, below_power, doubled_block, either_byte, its_block, next_power, s_box_block, same_bytes, same_until, sum_at, sum_block, xor_byte, xtime_is}
 use Rattle.sshsuite.proofs.LinearLemmas.{exchanged, raised}
 
+-- bits that one of two blocks has, byte by byte
 or_of : (n : ℕ) (f g : ℕ → ℕ) → AreBytes f → AreBytes g → bit_or (block_of n f) (block_of n g) ≡ block_of n (λ i. bit_or (f i) (g i))
 unfolding block_of
 or_of zero f g h k = or_zero_l 0
 or_of (suc n) f g h k =
     or_block 8 (block_of n f) (block_of n g) (f n) (g n) (h n) (k n) ∙ ap (λ (m : ℕ). m * 2 ^ 8 + bit_or (f n) (g n)) (or_of n f g h k)
 
+-- a byte has no bit beyond its mask
 whole_byte : (a : ℕ) → a < 2 ^ 8 → bit_and a 0xff ≡ a
 whole_byte a h = let is = and_mask a 8 in omega (arith, is, h)
 
@@ -24,13 +25,14 @@ whole_byte a h = let is = and_mask a 8 in omega (arith, is, h)
 pub same_below : {a : ℕ} {f : ℕ → ℕ} → IsBlock a f → (g : ℕ → ℕ) → AreBytes g → ((i : ℕ) → i < 16 → f i ≡ g i) → IsBlock a g
 same_below {f} k g h e = record { bytes = h; is = k.is ∙ same_until 16 f g e }
 
--- bits that two blocks have both, and that one of them has
+-- bits that two blocks both have
 both_block : {a b : ℕ} {f g : ℕ → ℕ} → IsBlock a f → IsBlock b g → IsBlock (bit_and a b) (λ i. bit_and (f i) (g i))
 both_block {f} {g} k l = record {
   bytes = λ i. let less = and_le_l (f i) (g i) in let low = k.bytes i in omega (arith, less, low);
   is = ap₂ bit_and k.is l.is ∙ and_of 16 f g k.bytes l.bytes;
 }
 
+-- bits that one of two blocks has
 either_block : {a b : ℕ} {f g : ℕ → ℕ} → IsBlock a f → IsBlock b g → IsBlock (bit_or a b) (λ i. bit_or (f i) (g i))
 either_block {f} {g} k l = record {
   bytes = λ i. or_lt 8 (f i) (g i) (k.bytes i) (l.bytes i);
@@ -72,6 +74,7 @@ turned_by n m f all h =
     ∙ (ap₂ (λ (x y : ℕ). x * 2 ^ (8 * n) + y) (same_until m (λ i. f (i + n)) g (λ i k. ap f (omega (arith, all))))
     (same_until n f (λ i. g (i + m)) (λ i k. ap f (omega (arith, all)))) ∙ sym (parted m n g (omega (arith, all)))))
 
+-- such a block by its bytes
 turned_block : (n m : ℕ) {a : ℕ} {f : ℕ → ℕ} → n + m ≡ 16 → IsBlock a f
     → IsBlock (bit_or (a * 2 ^ (8 * n) % 2 ^ 128) (a / 2 ^ (8 * m))) (λ i. f ((i + n) % 16))
 turned_block n m {f} all k = record {
@@ -85,6 +88,7 @@ unfolding block_of
 zeros zero = refl
 zeros (suc n) = let before = zeros n in omega (arith, before)
 
+-- its bytes: zeros, and then those before
 pub moved_block : (n m : ℕ) {a : ℕ} {f : ℕ → ℕ} → n + m ≡ 16 → IsBlock a f → IsBlock (a / 2 ^ (8 * m)) (λ i. cond (ltb i m) 0 (f (i - m)))
 moved_block n m {f} all k =
     let g : ℕ → ℕ = λ i. cond (ltb i m) 0 (f (i - m)) in
@@ -106,6 +110,7 @@ moved_block n m {f} all k =
 unfoldable row_mask : ℕ → ℕ → ℕ
 row_mask r i = cond (eqb (i % 4) r) 0xff 0
 
+-- the mask as a number
 mask_is : (r : ℕ) → r < 4 → 0xff000000ff000000ff000000ff000000 / 2 ^ (8 * r) ≡ block_of 16 (row_mask r)
 unfolding block_of row_mask
 mask_is zero h = refl
@@ -114,10 +119,12 @@ mask_is (suc (suc zero)) h = refl
 mask_is (suc (suc (suc zero))) h = refl
 mask_is (suc (suc (suc (suc r)))) h = absurd (omega arith)
 
+-- and with its bytes
 mask_block : (r : ℕ) → r < 4 → IsBlock (0xff000000ff000000ff000000ff000000 / 2 ^ (8 * r)) (row_mask r)
 unfolding row_mask
 mask_block r low = record { bytes = λ i. either_byte (eqb (i % 4) r) 0xff 0 (omega arith) (omega arith); is = mask_is r low }
 
+-- of four bytes the one of this row
 chosen_row : (t : ℕ) (a : ℕ → ℕ) → t < 4 → AreBytes a
     → bit_or (bit_or (bit_or (bit_and (a 0) (cond (eqb t 0) 0xff 0)) (bit_and (a 1) (cond (eqb t 1) 0xff 0))) (bit_and (a 2) (cond (eqb t 2) 0xff 0)))
     (bit_and (a 3) (cond (eqb t 3) 0xff 0)) ≡ a t
@@ -127,6 +134,7 @@ chosen_row (suc (suc zero)) a h k = simp (whole_byte (a 2) (k 2), and_zero_r, or
 chosen_row (suc (suc (suc zero))) a h k = simp (whole_byte (a 3) (k 3), and_zero_r, or_zero_l) refl
 chosen_row (suc (suc (suc (suc t)))) a h k = absurd (omega arith)
 
+-- ShiftRows of a block
 pub shifted_block : {a : ℕ} {f : ℕ → ℕ} → IsBlock a f → IsBlock (shift_rows a) (shifted_row f)
 unfolding shift_rows shifted_row row_mask
 shifted_block {f} k =
@@ -144,6 +152,7 @@ join_left : (f : ℕ → ℕ) → block_of 15 (λ i. f (i + 1)) * 2 ^ 8 ≡ bloc
 unfolding block_of
 join_left f = omega arith
 
+-- a block moved by one byte to its start
 left_block : {a : ℕ} {f : ℕ → ℕ} → IsBlock a f → IsBlock (a * 2 ^ 8 % 2 ^ 128) (λ i. cond (ltb i 15) (f (i + 1)) 0)
 left_block {f} k =
     let parts = split 1 15 f in
@@ -154,9 +163,11 @@ left_block {f} k =
       is = ap (λ (x : ℕ). x * 2 ^ 8 % 2 ^ 128) k.is ∙ (front ∙ join_left f);
     }
 
+-- the mask of all rows but the last
 unfoldable other_rows : ℕ → ℕ
 other_rows i = cond (eqb (i % 4) 3) 0 0xff
 
+-- as a number
 other_block : IsBlock 0xffffff00ffffff00ffffff00ffffff00 other_rows
 unfolding block_of other_rows
 other_block = record { bytes = λ i. either_byte (eqb (i % 4) 3) 0 0xff (omega arith) (omega arith); is = refl }
@@ -165,6 +176,7 @@ other_block = record { bytes = λ i. either_byte (eqb (i % 4) 3) 0 0xff (omega a
 abbrev pub next : ℕ → ℕ
 next i = 4 * (i / 4) + (i + 1) % 4
 
+-- from both movements each byte comes from the place below
 next_is : (f : ℕ → ℕ) (i : ℕ) → AreBytes f → i < 16
     → bit_or (bit_and (cond (ltb i 15) (f (i + 1)) 0) (other_rows i)) (bit_and (cond (ltb i 3) 0 (f (i - 3))) (row_mask 3 i)) ≡ f (next i)
 unfolding other_rows row_mask
@@ -184,6 +196,7 @@ next_is f i h low =
           ∙ (or_zero_r (bit_and (f (i + 1)) 0xff) ∙ (whole_byte (f (i + 1)) (h (i + 1)) ∙ ap f place))))
     ]
 
+-- the columns turned by one byte
 pub turned_words_block : {a : ℕ} {f : ℕ → ℕ} → IsBlock a f → IsBlock (turned_words a) (λ i. f (next i))
 unfolding turned_words
 turned_words_block {f} k =
@@ -195,10 +208,12 @@ product_2 : (a : ℕ) → byte_product 2 a ≡ xtime a
 unfolding byte_product byte_product_to xtime_by
 product_2 a = simp (xor_zero_r, xor_zero_l) refl
 
+-- 3 times a byte
 product_3 : (a : ℕ) → byte_product 3 a ≡ bit_xor a (xtime a)
 unfolding byte_product byte_product_to xtime_by
 product_3 a = simp (xor_zero_r, xor_zero_l) refl
 
+-- bits times 0x1b
 times_27_bits : (s t : ℕ) → s < 2 → t < 2 → bit_xor s t * 0x1b ≡ bit_xor (s * 0x1b) (t * 0x1b)
 times_27_bits zero zero h k = refl
 times_27_bits zero (suc zero) h k = refl
@@ -207,6 +222,7 @@ times_27_bits (suc zero) (suc zero) h k = refl
 times_27_bits (suc (suc s)) t h k = absurd (omega arith)
 times_27_bits s (suc (suc t)) h k = absurd (omega arith)
 
+-- x times a sum
 xtime_sum : (a b : ℕ) → a < 2 ^ 8 → b < 2 ^ 8 → xtime (bit_xor a b) ≡ bit_xor (xtime a) (xtime b)
 xtime_sum a b h k =
     let low = ap (λ (x : ℕ). x * 2) (xor_mod a b 7) ∙ raised 1 (a % 2 ^ 7) (b % 2 ^ 7) in
@@ -215,6 +231,7 @@ xtime_sum a b h k =
     ∙ (ap₂ bit_xor low high
     ∙ (exchanged (a % 2 ^ 7 * 2) (b % 2 ^ 7 * 2) (a / 2 ^ 7 % 2 * 0x1b) (b / 2 ^ 7 % 2 * 0x1b) ∙ ap₂ bit_xor (xtime_is a h) (xtime_is b k)))
 
+-- 2 a + 3 b + c + d, where x is taken out of a and b
 mixed_byte : (a b c d : ℕ) → a < 2 ^ 8 → b < 2 ^ 8
     → bit_xor (bit_xor (bit_xor (xtime (bit_xor a b)) b) c) d ≡ bit_xor (bit_xor (bit_xor (byte_product 2 a) (byte_product 3 b)) c) d
 mixed_byte a b c d h k =
@@ -235,7 +252,8 @@ mixed_is f h i =
     mixed_byte (f i) (f (next i)) (f (next (next i))) (f (next (next (next i)))) (h i) (h (next i))
     ∙ ap₂ bit_xor (ap₂ bit_xor (ap₂ bit_xor (ap (λ (p : ℕ). byte_product 2 (f p)) e0) (ap (λ (p : ℕ). byte_product 3 (f p)) e1)) (ap f e2)) (ap f e3)
 
-pub mixed_block : {a : ℕ} {f : ℕ → ℕ} → IsBlock a f → IsBlock (mix_columns a) (mixed_column f)
+-- MixColumns of a block
+mixed_block : {a : ℕ} {f : ℕ → ℕ} → IsBlock a f → IsBlock (mix_columns a) (mixed_column f)
 unfolding mix_columns
 mixed_block {f} k =
     let b = turned_words_block k in
@@ -247,10 +265,12 @@ mixed_block {f} k =
 abbrev pub substituted : (ℕ → ℕ) → ℕ → ℕ
 substituted f i = s_box (f i)
 
+-- AddRoundKey of a block
 pub keyed_block : {a b : ℕ} {f k : ℕ → ℕ} → IsBlock a f → IsBlock b k → IsBlock (bit_xor a b) (with_key f k)
 unfolding with_key
 keyed_block l m = sum_block l m
 
+-- the states are bytes
 pub states_bytes : (keys : ℕ → ℕ → ℕ) (f : ℕ → ℕ) (n : ℕ) → ((j : ℕ) → AreBytes (keys j)) → AreBytes f → AreBytes (state_after keys f n)
 unfolding state_after
 states_bytes keys f zero k h = (keyed_block (its_block f h) (its_block (keys 0) (k 0))).bytes
@@ -262,6 +282,7 @@ states_bytes keys f (suc n) k h =
 abbrev pub AreKeys : List ℕ → (ℕ → ℕ → ℕ) → Type 0
 AreKeys keys by = (j : ℕ) → j < length keys → slice_index keys j ≡ block_of 16 (by j)
 
+-- the block after so many rounds is the state
 states_block : (keys : List ℕ) (by : ℕ → ℕ → ℕ) (f : ℕ → ℕ) (n : ℕ) → ((j : ℕ) → AreBytes (by j)) → AreKeys keys by → AreBytes f → n < length keys
     → IsBlock (after_rounds keys (block_of 16 f) n) (state_after by f n)
 unfolding after_rounds state_after round
@@ -274,6 +295,7 @@ states_block keys by f (suc n) k are h low =
 abbrev last_state : (ℕ → ℕ → ℕ) → (ℕ → ℕ) → ℕ → ℕ → ℕ → ℕ
 last_state by f before last = with_key (shifted_row (substituted (state_after by f before))) (by last)
 
+-- it is the last state
 pub cipher_by_state : (keys : List ℕ) (by : ℕ → ℕ → ℕ) (f : ℕ → ℕ) → 2 ≤ length keys → ((j i : ℕ) → by j i < 2 ^ 8) → AreKeys keys by
     → ((i : ℕ) → f i < 2 ^ 8) → cipher keys (block_of 16 f) ≡ block_of 16 (last_state by f (length keys - 2) (length keys - 1))
 unfolding cipher last_round
@@ -283,6 +305,7 @@ cipher_by_state keys by f some k are h =
     (keyed_block (shifted_block (s_box_block (states_block keys by f n k are h (omega (arith, some)))))
     (record { bytes = k last; is = are last (omega (arith, some)) })).is
 
+-- which the standard names by the number of rounds
 pub cipher_is : (keys : List ℕ) (by : ℕ → ℕ → ℕ) (f : ℕ → ℕ) (rounds : ℕ) → 1 ≤ rounds → length keys ≡ rounds + 1 → ((j i : ℕ) → by j i < 2 ^ 8)
     → AreKeys keys by → ((i : ℕ) → f i < 2 ^ 8) → cipher keys (block_of 16 f) ≡ block_of 16 (encrypted_state rounds by f)
 unfolding encrypted_state

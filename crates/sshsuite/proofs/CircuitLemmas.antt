@@ -1,36 +1,36 @@
 -- What keeps sums and products of bits keeps the circuit of the S-box: so it works on the bytes of a block at once, and on the bits of a byte.
 
 use Rattle.std.proofs.Common.{◌≡◌, ℕ, suc, ◌/◌, ◌%◌, ◌^◌, ◌<◌, Bool, true, false, List, [], ◌∷◌, refl, sym, ap, ap₂, ◌∙◌, arith, cond, eqb}
-use Rattle.std.proofs.lemmas.Nat.{and_mod, and_shr, xor_mod, xor_shr}
+use Rattle.std.proofs.lemmas.Nat.{and_mod, and_shr, xor_mod}
 use Rattle.std.specs.Prelude.{bit_and, bit_xor, slice_index}
 use Rattle.sshsuite.specs.AesBytes.{block_of}
 use Rattle.sshsuite.specs.SBox.{circuit}
-use Rattle.sshsuite.proofs.AesLemmas.{and_of, same_block, xor_of}
+use Rattle.sshsuite.proofs.AesLemmas.{and_of, same_block, sum_at, xor_of}
 use Rattle.sshsuite.proofs.ListOfEight.{each_of_8, eight}
 
 -- the block of numbers, of each its lowest 8 bits
 unfoldable pub block : (ℕ → ℕ) → ℕ
 block f = block_of 16 (λ i. f i % 2 ^ 8)
 
+-- blocks added are the block of the sums
 pub block_xor : (f g : ℕ → ℕ) → bit_xor (block f) (block g) ≡ block (λ i. bit_xor (f i) (g i))
 unfolding block
 block_xor f g =
     xor_of 16 (λ i. f i % 2 ^ 8) (λ i. g i % 2 ^ 8) (λ i. omega arith) (λ i. omega arith)
     ∙ same_block 16 (λ i. bit_xor (f i % 2 ^ 8) (g i % 2 ^ 8)) (λ i. bit_xor (f i) (g i) % 2 ^ 8) (λ i. sym (xor_mod (f i) (g i) 8))
 
+-- blocks multiplied bit by bit are the block of the products
 block_and : (f g : ℕ → ℕ) → bit_and (block f) (block g) ≡ block (λ i. bit_and (f i) (g i))
 unfolding block
 block_and f g =
     and_of 16 (λ i. f i % 2 ^ 8) (λ i. g i % 2 ^ 8) (λ i. omega arith) (λ i. omega arith)
     ∙ same_block 16 (λ i. bit_and (f i % 2 ^ 8) (g i % 2 ^ 8)) (λ i. bit_and (f i) (g i) % 2 ^ 8) (λ i. sym (and_mod (f i) (g i) 8))
 
+-- the sum of two numbers that are blocks
 pub summed : (m n : ℕ) (a b : ℕ → ℕ) → m ≡ block a → n ≡ block b → bit_xor m n ≡ block (λ i. bit_xor (a i) (b i))
 summed m n a b e f = ap₂ bit_xor e f ∙ block_xor a b
 
--- one bit
-pub sum_at : (j a b : ℕ) → bit_xor a b / 2 ^ j % 2 ≡ bit_xor (a / 2 ^ j % 2) (b / 2 ^ j % 2)
-sum_at j a b = ap (λ (x : ℕ). x % 2 ^ 1) (xor_shr a b j) ∙ xor_mod (a / 2 ^ j) (b / 2 ^ j) 1
-
+-- one bit of a product
 product_at : (j a b : ℕ) → bit_and a b / 2 ^ j % 2 ≡ bit_and (a / 2 ^ j % 2) (b / 2 ^ j % 2)
 product_at j a b = ap (λ (x : ℕ). x % 2 ^ 1) (and_shr a b j) ∙ and_mod (a / 2 ^ j) (b / 2 ^ j) 1
 
@@ -65,13 +65,15 @@ gates =
     ∷ sum 89 104 ∷ sum 99 105 ∷ sum 96 105 ∷ sum 79 106 ∷ sum 108 109 ∷ sum 76 110 ∷ sum 111 112 ∷ sum 95 107 ∷ sum 103 109 ∷ sum 94 112
     ∷ sum 98 113 ∷ sum 100 113 ∷ sum 102 114 ∷ sum 111 119 ∷ sum 106 110 ∷ []
 
--- a map from functions that keeps sums, and one that keeps products
+-- a map from functions that keeps sums
 abbrev KeepsSums : ((ℕ → ℕ) → ℕ) → Type 0
 KeepsSums h = (a b : ℕ → ℕ) → bit_xor (h a) (h b) ≡ h (λ i. bit_xor (a i) (b i))
 
+-- and one that keeps products
 abbrev KeepsProducts : ((ℕ → ℕ) → ℕ) → Type 0
 KeepsProducts h = (a b : ℕ → ℕ) → bit_and (h a) (h b) ≡ h (λ i. bit_and (a i) (b i))
 
+-- it keeps a choice of two
 either : (h : (ℕ → ℕ) → ℕ) (c : Bool) (m n : ℕ) (a b : ℕ → ℕ) → m ≡ h a → n ≡ h b → cond c m n ≡ h (λ i. cond c (a i) (b i))
 either h true m n a b e f = e
 either h false m n a b e f = f
@@ -98,10 +100,12 @@ kept h s p x =
     each_of_8 (λ k. slice_index (circuit (eight (λ n. h (x n)))) k ≡ h (λ i. slice_index (circuit (eight (λ n. x n i))) k))
     (at 115) (at 116) (at 117) (at 118) (at 119) (at 120) (at 121) (at 122)
 
+-- the circuit works on each byte of blocks
 pub by_bytes : (x : ℕ → ℕ → ℕ) (k : ℕ) → k < 8
     → slice_index (circuit (eight (λ n. block (x n)))) k ≡ block (λ i. slice_index (circuit (eight (λ n. x n i))) k)
 by_bytes x k low = kept block block_xor block_and x k low
 
+-- and on each bit of bytes
 pub by_bits : (j : ℕ) (x : ℕ → ℕ) (k : ℕ) → k < 8
     → slice_index (circuit (eight x)) k / 2 ^ j % 2 ≡ slice_index (circuit (eight (λ n. x n / 2 ^ j % 2))) k
 by_bits j x k low =

@@ -7,9 +7,9 @@ use Rattle.sshsuite.specs.Aes.{cipher, shift_rows, turned_words}
 use Rattle.sshsuite.specs.AesBytes.{block_of, mixed_column, s_box, shifted_row, state_after, with_key, xtime}
 use Rattle.sshsuite.specs.SBox.{circuit}
 use Rattle.sshsuite.specs.SlicedAes.{eight_ciphers, exchanged, gathered, images, joined, key_planes, keyed, mixed_plane, mixed_planes, planes_after, shifted_planes, spread, turned_planes}
-use Rattle.sshsuite.proofs.AesLemmas.{AreBytes, its_block, s_box_block, same_block, xor_byte}
+use Rattle.sshsuite.proofs.AesLemmas.{AreBytes, its_block, s_box_block, same_block, sum_at, xor_byte}
 use Rattle.sshsuite.proofs.AesStateLemmas.{AreKeys, cipher_by_state, keyed_block, mixed_is, next, shifted_block, states_bytes, substituted, turned_words_block}
-use Rattle.sshsuite.proofs.CircuitLemmas.{block, block_xor, by_bits, by_bytes, sum_at, summed}
+use Rattle.sshsuite.proofs.CircuitLemmas.{block, block_xor, by_bits, by_bytes, summed}
 use Rattle.sshsuite.proofs.ListOfEight.{at_eight, each_of_8, eight, eight_same}
 use Rattle.sshsuite.proofs.SlicedLemmas.{byte_of, bytes_of, joined_are, of_bytes, plane_is, scaled, whole_block}
 use Rattle.sshsuite.proofs.SlicedSamples.{byte_joined, byte_planes, image_at, own_bits, xtime_first, xtime_next}
@@ -18,11 +18,13 @@ use Rattle.sshsuite.proofs.SlicedSamples.{byte_joined, byte_planes, image_at, ow
 abbrev number_of : (ℕ → ℕ) → ℕ
 number_of b = b 0 + 2 * b 1 + 4 * b 2 + 8 * b 3 + 16 * b 4 + 32 * b 5 + 64 * b 6 + 128 * b 7
 
+-- whose bits they are
 bit_of_number : (b : ℕ → ℕ) → ((j : ℕ) → b j < 2) → (j : ℕ) → j < 8 → number_of b / 2 ^ j % 2 ≡ b j
 bit_of_number b h =
     each_of_8 (λ j. number_of b / 2 ^ j % 2 ≡ b j) (omega (arith, h)) (omega (arith, h)) (omega (arith, h)) (omega (arith, h))
     (omega (arith, h)) (omega (arith, h)) (omega (arith, h)) (omega (arith, h))
 
+-- bits that are joined are that number
 joined_bits : (b : ℕ → ℕ) → ((j : ℕ) → b j < 2) → byte_joined (eight b) ≡ number_of b
 unfolding byte_planes
 joined_bits b h =
@@ -34,10 +36,12 @@ joined_bits b h =
 gather : ℕ → (ℕ → ℕ) → ℕ
 gather k t = byte_joined (eight (λ j. t j / 2 ^ k % 2))
 
+-- which is a byte
 gather_byte : (k : ℕ) (t : ℕ → ℕ) → gather k t < 2 ^ 8
 unfolding gather
 gather_byte k t = let is = joined_bits (λ j. t j / 2 ^ k % 2) (λ j. omega arith) in omega (arith, is)
 
+-- bit j of it is bit k of byte j
 bit_is : (j k : ℕ) (t : ℕ → ℕ) → j < 8 → gather k t / 2 ^ j % 2 ≡ t j / 2 ^ k % 2
 unfolding gather
 bit_is j k t low =
@@ -55,13 +59,15 @@ same_bits a b e =
 abbrev AllBytes : (ℕ → ℕ → ℕ) → Type 0
 AllBytes s = (j : ℕ) → AreBytes (s j)
 
--- a plane of blocks, all of them, and the blocks
+-- a plane of blocks
 plane : (ℕ → ℕ → ℕ) → ℕ → ℕ
 plane s k = block (λ i. gather k (λ j. s j i))
 
+-- all planes of blocks
 sliced : (ℕ → ℕ → ℕ) → List ℕ
 sliced s = eight (plane s)
 
+-- the blocks themselves
 abbrev blocks : (ℕ → ℕ → ℕ) → List ℕ
 blocks s = eight (λ j. block_of 16 (s j))
 
@@ -72,12 +78,14 @@ is_plane k f s e =
     same_block 16 (λ i. f i % 2 ^ 8) (λ i. gather k (λ j. s j i) % 2 ^ 8)
     (λ i. same_bits (f i) (gather k (λ j. s j i)) (λ j low. e i j low ∙ sym (bit_is j k (λ j. s j i) low)))
 
+-- what the code gathers of blocks is a plane
 gathered_is : (k : ℕ) (s : ℕ → ℕ → ℕ) → k < 8 → AllBytes s → gathered (blocks s) k ≡ plane s k
 unfolding gathered gather plane
 gathered_is k s low h =
     ap joined (eight_same _ (λ j. block (λ i. s j i / 2 ^ k % 2)) (λ j _. plane_is k (s j) low (h j)))
     ∙ joined_are (λ j i. s j i / 2 ^ k % 2) (λ j i _. omega arith)
 
+-- blocks exchanged are their planes
 exchanged_is : (s : ℕ → ℕ → ℕ) → AllBytes s → exchanged (blocks s) ≡ sliced s
 unfolding exchanged sliced
 exchanged_is s h = eight_same (gathered (blocks s)) (plane s) (λ k low. gathered_is k s low h)
@@ -87,6 +95,7 @@ back : (j : ℕ) (t : ℕ → ℕ) → j < 8 → ((j : ℕ) → t j < 2 ^ 8) →
 unfolding gather byte_planes
 back j t low h = ap byte_joined (eight_same (λ k. gather k t / 2 ^ j % 2) (λ k. t j / 2 ^ k % 2) (λ k _. bit_is j k t low)) ∙ own_bits (t j) (h j)
 
+-- what is gathered of planes is a block
 planes_of_planes : (j : ℕ) (s : ℕ → ℕ → ℕ) → j < 8 → AllBytes s → gathered (sliced s) j ≡ block_of 16 (s j)
 unfolding sliced plane block
 planes_of_planes j s low h =
@@ -96,6 +105,7 @@ planes_of_planes j s low h =
     ∙ (gathered_is j t low bytes ∙ (of_bytes (λ i. gather j (λ k. t k i)) (λ i. gather_byte j (λ k. t k i))
     ∙ same_block 16 (λ i. gather j (λ k. t k i)) (s j) (λ i. back j (λ j. s j i) low (λ j. h j i))))
 
+-- planes exchanged are the blocks
 exchanged_back : (s : ℕ → ℕ → ℕ) → AllBytes s → exchanged (sliced s) ≡ blocks s
 unfolding exchanged
 exchanged_back s h = eight_same (gathered (sliced s)) (λ j. block_of 16 (s j)) (λ j low. planes_of_planes j s low h)
@@ -110,6 +120,7 @@ ones j b low h =
 constant : ℕ → ℕ → ℕ
 constant k i = 0x63 / 2 ^ k % 2 * 0xff
 
+-- the images as the code has them: the circuit and this constant, which is 0 at four planes
 with_constant : (q : List ℕ)
     → bit_xor (slice_index q 0) 0xffffffffffffffffffffffffffffffff ∷ bit_xor (slice_index q 1) 0xffffffffffffffffffffffffffffffff
     ∷ slice_index q 2 ∷ slice_index q 3 ∷ slice_index q 4 ∷ bit_xor (slice_index q 5) 0xffffffffffffffffffffffffffffffff
@@ -128,6 +139,7 @@ image_bits k j t low small h =
     ∙ ap (λ (p : List ℕ). slice_index (circuit p) k) (eight_same (λ n. gather n t / 2 ^ j % 2) (λ n. t j / 2 ^ n % 2) (λ n _. bit_is j n t small)))
     (ones j (0x63 / 2 ^ k % 2) small (omega arith)) ∙ image_at (t j) k (h j) low)
 
+-- a plane of images
 image_is : (k : ℕ) (s : ℕ → ℕ → ℕ) → k < 8 → AllBytes s
     → bit_xor (slice_index (circuit (sliced s)) k) (block (constant k)) ≡ plane (λ j i. s_box (s j i)) k
 unfolding sliced plane constant
@@ -136,6 +148,7 @@ image_is k s low h =
     summed _ _ q (constant k) (by_bytes (λ n i. gather n (λ j. s j i)) k low) refl
     ∙ is_plane k (λ i. bit_xor (q i) (constant k i)) (λ j i. s_box (s j i)) (λ i j small. image_bits k j (λ j. s j i) low small (λ j. h j i))
 
+-- all of them
 images_are : (s : ℕ → ℕ → ℕ) → AllBytes s → images (sliced s) ≡ sliced (λ j i. s_box (s j i))
 unfolding images sliced
 images_are s h =
@@ -147,6 +160,7 @@ shifted_plane : (f : ℕ → ℕ) → shift_rows (block f) ≡ block (shifted_ro
 unfolding block shifted_row
 shifted_plane f = (shifted_block (its_block (λ i. f i % 2 ^ 8) (λ i. omega arith))).is
 
+-- the rows of all planes
 shifted_are : (s : ℕ → ℕ → ℕ) → shifted_planes (sliced s) ≡ sliced (λ j. shifted_row (s j))
 unfolding shifted_planes sliced plane shifted_row
 shifted_are s = eight_same (λ k. shift_rows (plane s k)) (plane (λ j. shifted_row (s j))) (λ k _. shifted_plane (λ i. gather k (λ j. s j i)))
@@ -156,6 +170,7 @@ turned_plane : (f : ℕ → ℕ) → turned_words (block f) ≡ block (λ i. f (
 unfolding block
 turned_plane f = (turned_words_block (its_block (λ i. f i % 2 ^ 8) (λ i. omega arith))).is
 
+-- the columns of all planes
 turned_are : (s : ℕ → ℕ → ℕ) → turned_planes (sliced s) ≡ sliced (λ j i. s j (next i))
 unfolding turned_planes sliced plane
 turned_are s = eight_same (λ k. turned_words (plane s k)) (plane (λ j i. s j (next i))) (λ k _. turned_plane (λ i. gather k (λ j. s j i)))
@@ -169,6 +184,7 @@ plane_sum k s u =
     sum_at j (gather k (λ j. s j i)) (gather k (λ j. u j i))
     ∙ (ap₂ bit_xor (bit_is j k (λ j. s j i) low) (bit_is j k (λ j. u j i) low) ∙ sym (sum_at k (s j i) (u j i))))
 
+-- sums of all planes
 keyed_are : (s u : ℕ → ℕ → ℕ) → keyed (sliced s) (sliced u) ≡ sliced (λ j i. bit_xor (s j i) (u j i))
 unfolding keyed sliced
 keyed_are s u = eight_same (λ k. bit_xor (plane s k) (plane u k)) (plane (λ j i. bit_xor (s j i) (u j i))) (λ k _. plane_sum k s u)
@@ -179,6 +195,7 @@ unfolding plane
 doubled_first s h =
     is_plane 0 (λ i. gather 7 (λ j. s j i)) (λ j i. xtime (s j i)) (λ i j low. bit_is j 7 (λ j. s j i) low ∙ xtime_first (s j i) (h j i))
 
+-- the others: the plane before, to which the highest is added where 0x1b has a bit
 doubled_next : (c : Bool) (k : ℕ) (s : ℕ → ℕ → ℕ) → c ≡ eqb (0x1b / 2 ^ suc k % 2) 1 → k < 7 → AllBytes s
     → cond c (bit_xor (plane s k) (plane s 7)) (plane s k) ≡ plane (λ j i. xtime (s j i)) (suc k)
 unfolding plane
@@ -196,6 +213,7 @@ abbrev doubled_plane : List ℕ → ℕ → ℕ
 doubled_plane u zero = slice_index u 7
 doubled_plane u (suc k) = cond (eqb (0x1b / 2 ^ suc k % 2) 1) (bit_xor (slice_index u k) (slice_index u 7)) (slice_index u k)
 
+-- these are the planes of doubled bytes
 doubled_are : (s : ℕ → ℕ → ℕ) → AllBytes s → (k : ℕ) → k < 8 → doubled_plane (sliced s) k ≡ plane (λ j i. xtime (s j i)) k
 unfolding sliced
 doubled_are s h zero low = doubled_first s h
@@ -207,6 +225,7 @@ doubled_are s h (suc k) low =
 abbrev mixed_sum : (ℕ → ℕ) → ℕ → ℕ
 mixed_sum f i = bit_xor (bit_xor (xtime (bit_xor (f i) (f (next i)))) (f (next i))) (bit_xor (f (next (next i))) (f (next (next (next i)))))
 
+-- a plane as the code mixes it
 column : (k : ℕ) (s : ℕ → ℕ → ℕ) (doubled : ℕ) → doubled ≡ plane (λ j i. xtime (bit_xor (s j i) (s j (next i)))) k
     → mixed_plane (plane (λ j i. s j (next i)) k) (plane (λ j i. bit_xor (s j i) (s j (next i))) k) doubled ≡ plane (λ j. mixed_sum (s j)) k
 unfolding mixed_plane plane
@@ -227,6 +246,7 @@ same_sliced s u e =
 mixed_by : List ℕ → List ℕ → List ℕ
 mixed_by b u = eight (λ k. mixed_plane (slice_index b k) (slice_index u k) (doubled_plane u k))
 
+-- all planes of mixed columns
 mixed_are : (s : ℕ → ℕ → ℕ) → AllBytes s → mixed_planes (sliced s) ≡ sliced (λ j. mixed_column (s j))
 unfolding mixed_planes sliced mixed_by
 mixed_are s h =
@@ -250,6 +270,7 @@ spread_is k f low h =
     ∙ (scaled 0xff (λ i. f i / 2 ^ k % 2) (λ i. omega arith) (λ i. omega arith)
     ∙ is_plane k (λ i. f i / 2 ^ k % 2 * 0xff) (λ j. f) (λ i j small. ones j (f i / 2 ^ k % 2) small (omega arith)))
 
+-- all planes of a round key
 key_is : (f : ℕ → ℕ) → AreBytes f → key_planes (block_of 16 f) ≡ sliced (λ j. f)
 unfolding key_planes sliced
 key_is f h = eight_same (spread (block_of 16 f)) (plane (λ j. f)) (λ k low. spread_is k f low h)
@@ -259,12 +280,15 @@ key_added : (s : ℕ → ℕ → ℕ) (f : ℕ → ℕ) (key : ℕ) → AreBytes
 unfolding with_key
 key_added s f key h e = ap (λ (x : ℕ). keyed (sliced s) (key_planes x)) e ∙ (ap (keyed (sliced s)) (key_is f h) ∙ keyed_are s (λ j. f))
 
+-- SubBytes and ShiftRows
 rows_are : (s : ℕ → ℕ → ℕ) → AllBytes s → shifted_planes (images (sliced s)) ≡ sliced (λ j. shifted_row (substituted (s j)))
 rows_are s h = ap shifted_planes (images_are s h) ∙ shifted_are (λ j. substituted (s j))
 
+-- they give bytes
 rows_bytes : (s : ℕ → ℕ → ℕ) → AllBytes s → AllBytes (λ j. shifted_row (substituted (s j)))
 rows_bytes s h j = (shifted_block (s_box_block (its_block (s j) (h j)))).bytes
 
+-- the planes after so many rounds are those of the states
 rounds_are : (keys : List ℕ) (by : ℕ → ℕ → ℕ) (s : ℕ → ℕ → ℕ) (n : ℕ) → ((j : ℕ) → AreBytes (by j))
     → AreKeys keys by → AllBytes s → n < length keys
     → planes_after keys (blocks s) n ≡ sliced (λ j. state_after by (s j) n)
@@ -280,6 +304,7 @@ rounds_are keys by s (suc n) k are h low =
     ∙ (ap (λ (p : List ℕ). keyed p (key_planes (slice_index keys (suc n)))) (mixed_are r (rows_bytes t ht))
     ∙ key_added (λ j. mixed_column (r j)) (by (suc n)) (slice_index keys (suc n)) (k (suc n)) (are (suc n) low))
 
+-- eight blocks of these bytes encrypted
 eight_are : (keys : List ℕ) (by : ℕ → ℕ → ℕ) (s : ℕ → ℕ → ℕ) → 2 ≤ length keys → ((j : ℕ) → AreBytes (by j))
     → AreKeys keys by → AllBytes s
     → eight_ciphers keys (blocks s) ≡ eight (λ j. cipher keys (block_of 16 (s j)))

@@ -25,5 +25,6 @@ eight_same f g e =
     ap₂ ◌∷◌ (e 0 (omega arith)) (ap₂ ◌∷◌ (e 1 (omega arith)) (ap₂ ◌∷◌ (e 2 (omega arith)) (ap₂ ◌∷◌ (e 3 (omega arith))
     (ap₂ ◌∷◌ (e 4 (omega arith)) (ap₂ ◌∷◌ (e 5 (omega arith)) (ap₂ ◌∷◌ (e 6 (omega arith)) (ap₂ ◌∷◌ (e 7 (omega arith)) refl)))))))
 
+-- each of the eight stands at its number
 pub at_eight : (f : ℕ → ℕ) (k : ℕ) → k < 8 → slice_index (eight f) k ≡ f k
 at_eight f = each_of_8 (λ k. slice_index (eight f) k ≡ f k) refl refl refl refl refl refl refl refl

@@ -15,10 +15,12 @@ use Rattle.sshsuite.proofs.SlicedSamples.{byte_by_circuit, byte_joined, byte_pla
 unfoldable pub byte_of : ℕ → ℕ → ℕ
 byte_of a i = a / 2 ^ (8 * (15 - i)) % 2 ^ 8
 
+-- it is the block of them
 pub whole_block : (a : ℕ) → a < 2 ^ 128 → a ≡ block_of 16 (byte_of a)
 unfolding block_of byte_of
 whole_block a h = omega (arith, h)
 
+-- of bytes, all bits are their lowest 8
 pub of_bytes : (f : ℕ → ℕ) → AreBytes f → block f ≡ block_of 16 f
 unfolding block
 of_bytes f h = same_block 16 (λ i. f i % 2 ^ 8) f (λ i. let low = h i in omega (arith, low))
@@ -28,6 +30,7 @@ pub plane_is : (k : ℕ) (f : ℕ → ℕ) → k < 8 → AreBytes f → bit_and 
 unfolding block
 plane_is k f h low = lowest_bits k f h low ∙ same_block 16 (λ i. f i / 2 ^ k % 2) (λ i. f i / 2 ^ k % 2 % 2 ^ 8) (λ i. omega arith)
 
+-- the planes of a block are its bits
 planes_are : (f : ℕ → ℕ) → AreBytes f → planes (block_of 16 f) ≡ eight (λ k. block (λ i. f i / 2 ^ k % 2))
 unfolding planes
 planes_are f h =
@@ -50,6 +53,7 @@ raised k q low h =
     (omega (arith, bit)) (omega (arith, bit)) (omega (arith, bit)) (omega (arith, bit))
     (omega (arith, bit)) (omega (arith, bit)) (omega (arith, bit)) (omega (arith, bit)) k low)
 
+-- bits of the same byte are joined to it
 pub joined_are : (q : ℕ → ℕ → ℕ) → ((k i : ℕ) → k < 8 → q k i < 2)
     → joined (eight (λ k. block (q k))) ≡ block (λ i. byte_joined (eight (λ k. q k i)))
 unfolding joined byte_joined
@@ -59,14 +63,17 @@ joined_are q h =
     (summed _ _ (q 0) (λ i. q 1 i * 2 ^ 1) refl (up 1 (omega arith))) (up 2 (omega arith))) (up 3 (omega arith)))
     (up 4 (omega arith))) (up 5 (omega arith))) (up 6 (omega arith))) (up 7 (omega arith))
 
-pub ap_block : (f g : ℕ → ℕ) → ((i : ℕ) → f i ≡ g i) → block f ≡ block g
+-- the same numbers have the same block
+ap_block : (f g : ℕ → ℕ) → ((i : ℕ) → f i ≡ g i) → block f ≡ block g
 unfolding block
 ap_block f g h = same_block 16 (λ i. f i % 2 ^ 8) (λ i. g i % 2 ^ 8) (λ i. ap (λ (x : ℕ). x % 2 ^ 8) (h i))
 
+-- the bytes of a number are bytes
 pub bytes_of : (a : ℕ) → AreBytes (byte_of a)
 unfolding byte_of
 bytes_of a = λ i. omega arith
 
+-- the circuit of a block of these bytes
 by_block : (f : ℕ → ℕ) → AreBytes f → bit_xor (joined (circuit (planes (block_of 16 f)))) 0x63636363636363636363636363636363 ≡ block_of 16 (λ i. s_box (f i))
 unfolding byte_planes byte_joined joined
 by_block f h =
@@ -80,6 +87,7 @@ by_block f h =
     ∙ (ap_block (λ i. bit_xor (byte_joined (eight (λ k. q k i))) 0x63) (λ i. s_box (f i)) (λ i. byte_by_circuit (f i) (h i))
     ∙ of_bytes (λ i. s_box (f i)) (λ i. s_box_byte (f i) (h i)))
 
+-- the circuit is SubBytes
 pub by_circuit : (a : ℕ) → a < 2 ^ 128 → bit_xor (joined (circuit (planes a))) 0x63636363636363636363636363636363 ≡ sub_bytes a
 by_circuit a h =
     let is : a ≡ block_of 16 (byte_of a) = whole_block a h in
