@@ -383,10 +383,10 @@ pub add_value : (a b : List ℕ) → AreBelow (2 ^ 52) a → AreBelow (2 ^ 52) b
     → AreBelow (2 ^ 52) (add a b) × (value (add a b) % field ≡ (value a + value b) % field)
 add_value a b h k = let out = add_tight a b h k in (below_tight (add a b) out.0, out.1)
 
--- a limb more than any, less a limb
-less_is : (spare a b : ℕ) → b ≤ spare → spare < 2 ^ 54 → a < 2 ^ 52 → (less spare a b + b ≡ spare + a) × (less spare a b < 2 ^ 56)
+-- a limb less than so much more
+spared : (spare m top a b : ℕ) → b ≤ spare → m + spare ≤ top → top ≤ 2 ^ 56 → a < m → (less spare a b + b ≡ spare + a) × (less spare a b < top)
 unfolding less
-less_is spare a b h k l = (omega arith, omega arith)
+spared spare m top a b h l t k = (omega arith, omega arith)
 
 shifted : (x y b a : ℕ) → x % field ≡ y % field → y + b ≡ a + field * 4 → (x + b) % field ≡ a % field
 shifted x y b a e f = omega arith
@@ -396,28 +396,18 @@ pub sub_value : (a b : List ℕ) → AreBelow (2 ^ 52) a → AreBelow (2 ^ 52) b
 unfolding sub
 sub_value a b h k =
     let c0 : ℕ = less 9007199254740916 (slice_index a 0) (slice_index b 0) in
-    let w0 = less_is 9007199254740916 (slice_index a 0) (slice_index b 0) (omega (arith, k.l0)) (omega arith) h.l0 in
-    let e0 : c0 + slice_index b 0 ≡ 9007199254740916 + slice_index a 0 = w0.0 in
+    let w0 = spared 9007199254740916 (2 ^ 52) (2 ^ 56) (slice_index a 0) (slice_index b 0) (omega (arith, k.l0)) (omega arith) (omega arith) h.l0 in
     let c1 : ℕ = less 9007199254740988 (slice_index a 1) (slice_index b 1) in
-    let w1 = less_is 9007199254740988 (slice_index a 1) (slice_index b 1) (omega (arith, k.l1)) (omega arith) h.l1 in
-    let e1 : c1 + slice_index b 1 ≡ 9007199254740988 + slice_index a 1 = w1.0 in
+    let w1 = spared 9007199254740988 (2 ^ 52) (2 ^ 56) (slice_index a 1) (slice_index b 1) (omega (arith, k.l1)) (omega arith) (omega arith) h.l1 in
     let c2 : ℕ = less 9007199254740988 (slice_index a 2) (slice_index b 2) in
-    let w2 = less_is 9007199254740988 (slice_index a 2) (slice_index b 2) (omega (arith, k.l2)) (omega arith) h.l2 in
-    let e2 : c2 + slice_index b 2 ≡ 9007199254740988 + slice_index a 2 = w2.0 in
+    let w2 = spared 9007199254740988 (2 ^ 52) (2 ^ 56) (slice_index a 2) (slice_index b 2) (omega (arith, k.l2)) (omega arith) (omega arith) h.l2 in
     let c3 : ℕ = less 9007199254740988 (slice_index a 3) (slice_index b 3) in
-    let w3 = less_is 9007199254740988 (slice_index a 3) (slice_index b 3) (omega (arith, k.l3)) (omega arith) h.l3 in
-    let e3 : c3 + slice_index b 3 ≡ 9007199254740988 + slice_index a 3 = w3.0 in
+    let w3 = spared 9007199254740988 (2 ^ 52) (2 ^ 56) (slice_index a 3) (slice_index b 3) (omega (arith, k.l3)) (omega arith) (omega arith) h.l3 in
     let c4 : ℕ = less 9007199254740988 (slice_index a 4) (slice_index b 4) in
-    let w4 = less_is 9007199254740988 (slice_index a 4) (slice_index b 4) (omega (arith, k.l4)) (omega arith) h.l4 in
-    let e4 : c4 + slice_index b 4 ≡ 9007199254740988 + slice_index a 4 = w4.0 in
+    let w4 = spared 9007199254740988 (2 ^ 52) (2 ^ 56) (slice_index a 4) (slice_index b 4) (omega (arith, k.l4)) (omega arith) (omega arith) h.l4 in
     let out = once_value c0 c1 c2 c3 c4 w0.1 w1.1 w2.1 w3.1 w4.1 in
-    let all : weighed c0 c1 c2 c3 c4 + value b ≡ value a + field * 4 = omega (arith, e0, e1, e2, e3, e4) in
+    let all : weighed c0 c1 c2 c3 c4 + value b ≡ value a + field * 4 = omega (arith, w0.0, w1.0, w2.0, w3.0, w4.0) in
     (below_tight (sub a b) out.0, shifted (value (sub a b)) (weighed c0 c1 c2 c3 c4) (value b) (value a) out.1 all)
-
--- a tight limb less than twice the field's
-spared : (spare m top a b : ℕ) → b ≤ spare → m + spare ≤ top → top ≤ 2 ^ 54 → a < m → (less spare a b + b ≡ spare + a) × (less spare a b < top)
-unfolding less
-spared spare m top a b h l t k = (omega arith, omega arith)
 
 shifted_twice : (x b a : ℕ) → x + b ≡ a + field * 2 → (x + b) % field ≡ a % field
 shifted_twice x b a f = omega arith
@@ -427,11 +417,11 @@ pub difference_loose : (m top : ℕ) (a b : List ℕ) → m + 4503599627370494 �
     → AreBelow top (loose_difference a b) × ((value (loose_difference a b) + value b) % field ≡ value a % field)
 unfolding loose_difference
 difference_loose m top a b l t h k =
-    let w0 = spared 4503599627370458 m top (slice_index a 0) (slice_index b 0) (omega (arith, k.l0)) (omega (arith, l)) t h.l0 in
-    let w1 = spared 4503599627370494 m top (slice_index a 1) (slice_index b 1) (omega (arith, k.l1)) l t h.l1 in
-    let w2 = spared 4503599627370494 m top (slice_index a 2) (slice_index b 2) (omega (arith, k.l2)) l t h.l2 in
-    let w3 = spared 4503599627370494 m top (slice_index a 3) (slice_index b 3) (omega (arith, k.l3)) l t h.l3 in
-    let w4 = spared 4503599627370494 m top (slice_index a 4) (slice_index b 4) (omega (arith, k.l4)) l t h.l4 in
+    let w0 = spared 4503599627370458 m top (slice_index a 0) (slice_index b 0) (omega (arith, k.l0)) (omega (arith, l)) (omega (arith, t)) h.l0 in
+    let w1 = spared 4503599627370494 m top (slice_index a 1) (slice_index b 1) (omega (arith, k.l1)) l (omega (arith, t)) h.l1 in
+    let w2 = spared 4503599627370494 m top (slice_index a 2) (slice_index b 2) (omega (arith, k.l2)) l (omega (arith, t)) h.l2 in
+    let w3 = spared 4503599627370494 m top (slice_index a 3) (slice_index b 3) (omega (arith, k.l3)) l (omega (arith, t)) h.l3 in
+    let w4 = spared 4503599627370494 m top (slice_index a 4) (slice_index b 4) (omega (arith, k.l4)) l (omega (arith, t)) h.l4 in
     let all : value (loose_difference a b) + value b ≡ value a + field * 2 = spread_difference _ _ _ _ _ _ _ _ _ _ _ _ _ _ _ w0.0 w1.0 w2.0 w3.0 w4.0 in
     (record { l0 = w0.1; l1 = w1.1; l2 = w2.1; l3 = w3.1; l4 = w4.1 }, shifted_twice (value (loose_difference a b)) (value b) (value a) all)
   where

@@ -1,4 +1,4 @@
--- The five sums of a product of numbers of five limbs, and one subtraction of the modulus.
+-- Numbers of five limbs: the sums of a product, a pass of carries, and one subtraction of the modulus.
 
 use Rattle.std.proofs.Common.{◌≡◌, ℕ, ◌+◌, ◌*◌, ◌/◌, ◌%◌, ◌^◌, ◌<◌, ◌≤◌, List, [], ◌∷◌, lt_of_lt_of_le, mod-eq_of_lt, refl, sym, ap, ◌∙◌, arith}
 use Rattle.std.proofs.Math.Nat.{add-mod, add-mul, add-mul-mod_self_left, add-zero, div-add-mod, mul-le-mul_left}
@@ -44,7 +44,7 @@ times_small k m n x p l t h =
     let is : mul64 x k ≡ k * x = omega (arith, t, small) in
     (is, omega (arith, is, small))
 
--- five sums, each taken modulo a number
+-- a sum that is taken modulo a number, and one more
 modulo : (w s x y : ℕ) → s ≡ y % w → (s + x % w) % w ≡ (y + x) % w
 modulo w s x y e = ap (λ (n : ℕ). (n + x % w) % w) e ∙ sym (add-mod y x w)
 

@@ -295,9 +295,6 @@ below_of a h = record { l0 = omega (arith, h.l0); l1 = omega (arith, h.l1); l2 =
 last_sum : (x y s : ℕ) → x ≡ y % 2 ^ 128 → (x + s) % 2 ^ 128 ≡ (y + s) % 2 ^ 128
 last_sum x y s is = omega arith
 
-own_remainder : (x n : ℕ) → x % modulus ≡ n → n ≡ x % modulus
-own_remainder x n is = sym is
-
 pub mac_is : (key input : List ℕ) → IsBytes key → IsBytes input → tag_of key input ≡ mac key input
 unfolding tag_of mac
 mac_is key input h k =

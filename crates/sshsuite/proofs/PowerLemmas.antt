@@ -54,9 +54,6 @@ one_below = let h = prime_big in rw one_is (omega (arith, h))
 pub unit_square_below : number_of UNIT_SQUARE < prime
 unit_square_below = let h = prime_big in rw unit_square_is (mod_below (weight 32 * weight 32) prime (omega (arith, h)))
 
-pub remainder_below : (n : ℕ) → n % prime < prime
-remainder_below n = let h = prime_big in mod_below n prime (omega (arith, h))
-
 -- a factor that has an inverse is left out
 pub cancelled : (r k p u v : ℕ) → r * k % p ≡ 1 → 1 < p → r * u % p ≡ r * v % p → u % p ≡ v % p
 cancelled r k p u v one some same = back u ∙ ap (λ (n : ℕ). k * n % p) same ∙ sym (back v)
