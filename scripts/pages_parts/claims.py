@@ -88,7 +88,7 @@ PAGES = {
     'endpoint': Page('The endpoint\'s theorem', """
 **To whom:** those who feed an endpoint of this project with what any peer sends, in whatever pieces it comes.
 
-**What:** at each moment there are two lists of bytes, those that the endpoint has used and those that it has sent, and the one decides the other: the bytes received read as a version line and payloads in one way alone, the bytes sent spell what the definitions answer to these, and the endpoint stands as they say (`EndpointAfter`). It holds at the making (`made`), and each `feed` takes it on by the bytes that it used and appended (`fed`). So the pieces change nothing: two endpoints that are given one input use the same bytes, send the same and stand alike (`joined`). By what one that ended authenticated has received the user was accepted (`authenticated`), and what it hands over belongs to what it received (`session`).
+**What:** at each moment there are two lists of bytes, those that the endpoint has used and those that it has sent, and the one decides the other: the bytes received read as a version line and payloads in one way alone, the bytes sent spell what the definitions answer to these, and the endpoint stands as they say (`EndpointAfter`). It holds at the making (`made`), and each `feed` takes it on by the bytes that it used and appended (`fed`). So the pieces change nothing: two endpoints that are given one input use the same bytes, send the same and stand alike (`joined`). If an endpoint ended authenticated, the user was accepted by what it has received (`authenticated`), and the session that it hands over fits what it has received (`session`).
 
 **Version lines:** the config chose by `reading` which lines of the peer are a version line (`form_of`), and all of this holds by either form. By `Strict` they are those of RFC 4253 section 4.2. By `Deployed` what you rely on is `IsDeployedText`, of which `is_deployed_text` below is the test (`reading_by_law`, clause `text`): minus signs may stand in the softwareversion and, at a client, `SSH-1.99-` in front; LF alone may end the line (`before_cr`).
 
@@ -275,8 +275,8 @@ def written(book, opened):
     paths = {it.file.path for it in whole}
     out = [f'# {page.title}', '', page.words, '',
            f'Below stand {"the clauses of one function" if len(functions) == 1 else f"clauses of {len(functions)} functions"} and the {len(whole)} definitions on which they rest, {lines_of(whole)} lines of {len(paths)} files, '
-           'word for word. Nothing else has to be read to know what is promised, but the notation, which [NOTATION.md](../NOTATION.md) explains. In each part the layers stand from the top to the bottom, '
-           'and in a layer each definition where a reader first comes to its name. '
+           'word for word. Nothing else has to be read to know what is promised, but the notation, which [NOTATION.md](../NOTATION.md) explains. Each part goes through the crates from the top one down; '
+           'in a crate a definition stands where its name first occurs. '
            'The page is written by `scripts/pages`; [AUDIT.md](../AUDIT.md) tells what would be possible if a statement were wrong.', '']
     out += ['| Part | Definitions | Lines |', '|---|---|---|']
     out += [f'| [{heading}]({anchor(heading)}) | {len(order)} | {lines_of(order)} |' for heading, _, order in parts]
