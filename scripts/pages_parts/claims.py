@@ -276,7 +276,7 @@ def written(book, opened):
     out = [f'# {page.title}', '', page.words, '',
            f'Below stand {"the clauses of one function" if len(functions) == 1 else f"clauses of {len(functions)} functions"} and the {len(whole)} definitions on which they rest, {lines_of(whole)} lines of {len(paths)} files, '
            'word for word. Nothing else has to be read to know what is promised, but the notation, which [NOTATION.md](../NOTATION.md) explains. Each part goes through the crates from the top one down; '
-           'in a crate a definition stands where its name first occurs. '
+           'in a crate, what the clauses name comes first, then what that names, and so on. '
            'The page is written by `scripts/pages`; [AUDIT.md](../AUDIT.md) tells what would be possible if a statement were wrong.', '']
     out += ['| Part | Definitions | Lines |', '|---|---|---|']
     out += [f'| [{heading}]({anchor(heading)}) | {len(order)} | {lines_of(order)} |' for heading, _, order in parts]
