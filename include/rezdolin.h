@@ -16,13 +16,13 @@
  *
  * bindings/c/session.h is that loop over a socket, bindings/c/serve.c a server of many connections.
  *
- *   1. Look at `status` first. Where it isn't REZDOLIN_ANSWERED nothing has changed: go on with the old record. The same call may
- *      be made again.
+ *   1. Look at `status` first. Where it isn't REZDOLIN_ANSWERED nothing has changed but the front of `told`: go on with the old
+ *      record. The same call may be made again.
  *   2. Send all of `out` after each answered call, also where the endpoint has ended.
  *   3. USE A RECORD FOR ONE ANSWERED CALL, and then only the next one. If you use a record twice and send what came of both, two
  *      packets are sealed with one key and one number: who listens can read and forge packets.
- *   4. ALL PARTS OF A CONNECTION ARE THE SAME IN ALL ITS CALLS: lists, keys, draws, users. A list that was read anew between two
- *      calls is another list. A call with other parts is REZDOLIN_PARTS. A step that only holds a part of a packet looks neither at
+ *   4. ALL PARTS OF A CONNECTION ARE THE SAME IN ALL ITS CALLS: lists, keys, draws, users. A list that is read anew between two
+ *      calls may be another list. A call with other parts is REZDOLIN_PARTS. A step that only holds a part of a packet looks neither at
  *      parts nor at the rest of the record; the next step that does more is refused then, and so is one by no bytes.
  *   5. KEEP A RECORD AS YOU KEEP A PRIVATE KEY: never send it to a peer, and never keep it where another can read or write it.
  *      WHOEVER CAN READ A RECORD HAS THE KEYS of the connection, can read the session and forge packets, and may get a password.
@@ -262,13 +262,14 @@ typedef struct rezdolin_bytes_answer {
  * begin makes one that has received nothing, and step has it take a piece of what the peer sends, of any length. Where it asks,
  * a step takes nothing and asks the same again: leave the bytes in the socket until you have the answer. answer takes one of
  * REZDOLIN_YES and so on, with a signature where it is REZDOLIN_SIGNATURE, and none else; then step with the bytes that weren't
- * used. disconnect sends a DISCONNECT (RFC 4253 section 11.1) with a description in UTF-8 of at most 1024 bytes, and ends the
- * endpoint. To give up without a word, and where the peer has gone, close the socket and wipe the record.
+ * used. disconnect sends a DISCONNECT (RFC 4253 section 11.1) with a description in UTF-8, or none where it has more than 1024
+ * bytes, and ends the endpoint. To give up without a word, and where the peer has gone, close the socket and wipe the record.
  *
- * A client asks once whether a key is the server's, and once for each signature. A server asks of each request that proves
- * something, of the method none too, of each key that a client asks about, and once for a signature. A yes to a request accepts the
- * user, unless `required` has more; a yes to a key that is asked about accepts nobody: a signed request follows, about which it asks
- * again. Take your time; the peer may not wait for ever, as OpenSSH's server does for two minutes.
+ * A client asks once whether a key is the server's, and once for each signature. A server asks once for a signature, and of each
+ * request that it doesn't refuse itself: by the method none, or by one of `methods` with an algorithm that the library has. It asks
+ * of each key that a client asks about, too, but not at the last of `tries`. A yes to a request accepts the user, unless its
+ * signature is wrong or `required` has more; a yes to a key that is asked about accepts nobody: a signed request follows, about
+ * which it asks again. Take your time; the peer may not wait for ever, as OpenSSH's server does for two minutes.
  *
  * step and answer first write 0 to the first four bytes of `told`, so that no question of an earlier call is read again. */
 rezdolin_step_answer rezdolin_client_begin(const rezdolin_client_input *client, uint8_t *next, size_t next_len, uint8_t *out,
@@ -360,7 +361,8 @@ enum {
     REZDOLIN_QUESTION_USER = 2,      /* of a user: the name */
     REZDOLIN_QUESTION_SERVICE = 3,   /* of a user: the service that is to start */
     REZDOLIN_QUESTION_METHOD = 4,    /* of a user: REZDOLIN_METHOD_, in 4 bytes, the highest first. With NONE nothing is proved */
-    REZDOLIN_QUESTION_ALGORITHM = 5, /* of a key: the algorithm as the peer names it; decide by the key. Of a signature: its algorithm */
+    REZDOLIN_QUESTION_ALGORITHM = 5, /* of a host key: the agreed one; of a user's: as the request names it. Decide by the key. Of a
+                                      * signature: its algorithm */
     REZDOLIN_QUESTION_KEY = 6,       /* the server's public key, the user's, or the one to sign by. Show a person its SHA-256 in base64,
                                       * which OpenSSH calls its fingerprint. A yes accepts the key; a signature is verified after it */
     REZDOLIN_QUESTION_PASSWORD = 7,  /* of a user: the password, secret. Compare it in a time that doesn't tell where it differs */

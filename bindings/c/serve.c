@@ -162,13 +162,15 @@ static rezdolin_bytes bytes_of(const char *path, uint8_t *at, size_t room) {
 }
 
 int main(int argc, char **argv) {
-    static uint8_t key[32], password[1024];
+    static uint8_t key[33], password[1025]; /* of a longer file, one byte more */
     static struct pollfd polled[CONNECTIONS + 1];
     if (argc != 5 || strlen(argv[3]) > 200)
         return 2;
     host_key.key = bytes_of(argv[2], key, sizeof key);
     user.user = (rezdolin_bytes){(const uint8_t *)argv[3], strlen(argv[3])};
     user.proof = bytes_of(argv[4], password, sizeof password);
+    if (host_key.key.len != 32 || user.proof.len == 0 || user.proof.len > 1024 || user.user.len == 0)
+        return 2;
     struct sockaddr_in address = {.sin_family = AF_INET, .sin_port = htons((uint16_t)atoi(argv[1])), .sin_addr.s_addr = htonl(INADDR_LOOPBACK)};
     socklen_t size = sizeof address;
     int listening = socket(AF_INET, SOCK_STREAM, 0);

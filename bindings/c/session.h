@@ -42,6 +42,7 @@ static inline int receive(int end, session *s) {
 static inline rezdolin_step_answer carry(session *s, const rezdolin_client_input *client, int end, decider *decide) {
     uint8_t signature[8192];
     kept *record = &s->records[0], *next = &s->records[1], *old;
+    record->len = next->len = s->came_len = 0;
     rezdolin_step_answer a = rezdolin_client_begin(client, next->at, sizeof next->at, s->out, sizeof s->out);
     while (a.status == REZDOLIN_ANSWERED) {
         rezdolin_wipe(record->at, record->len);

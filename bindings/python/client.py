@@ -4,11 +4,13 @@
 
 SECRET is the password; or @ and the path of a public key, as ssh-keygen writes it, by which the agent of SSH_AUTH_SOCK signs. KEY-FILE
 has the host key's bytes, which `cut -d' ' -f2 host.pub | base64 -d` gives; where it is `-`, a person is asked. With `-` for HOST it
-talks to its standard input and output.
+talks to its standard input and output, and KEY-FILE isn't `-`: the server would be asked about its own key. The status is 0 if the
+user is authenticated. After two minutes the program is ended by SIGALRM.
 """
 import base64
 import hashlib
 import os
+import signal
 import socket
 import sys
 
@@ -60,6 +62,10 @@ def public_key_of(path):
 
 
 def main(host, port, user, secret, path):
+    if host == '-' and path == '-':
+        sys.exit('client: with - for HOST a KEY-FILE is needed')
+    signal.alarm(120)
+
     def decide(question):
         if question.kind == 'signature':
             return Agent().sign(question)
@@ -77,7 +83,7 @@ def main(host, port, user, secret, path):
         link = client.link()
         print(link.user.decode(), 'at', link.peer_version.decode(), file=told)
     else:
-        print(f'end {client.end}: F{client.fault} {client.detail}', file=told)
+        sys.exit(f'end {client.end}: F{client.fault} {client.detail}')
 
 
 if __name__ == '__main__':

@@ -48,13 +48,21 @@ def why_not(client):
     return 'the server has gone'
 
 
+def seconds_until(deadline):
+    """The seconds that are left, or TimeoutError where there are none: of bytes that keep coming no read takes long."""
+    left = deadline - time.monotonic()
+    if left <= 0:
+        raise TimeoutError('the server takes too long')
+    return left
+
+
 def main(host, port, user, identity, host_key):
     client = Client(user, [key_in(identity)], [blob_of(host_key)])
     deadline = time.monotonic() + SECONDS
     with socket.create_connection((host, port), SECONDS) as end:
         end.sendall(client.begin())
         while client.is_open:
-            end.settimeout(max(0.001, deadline - time.monotonic()))
+            end.settimeout(seconds_until(deadline))
             piece = end.recv(4096)
             if not piece:
                 break

@@ -3,19 +3,22 @@ proved library rezdolin.
 
     client = Client('al', [Password(b'secret')], [host_key])
     socket.sendall(client.begin())
-    while client.is_open:
-        socket.sendall(client.step(socket.recv(4096)))
+    while client.is_open and (piece := socket.recv(4096)):
+        socket.sendall(client.step(piece))
 
 Without the list of host keys, or of users, an endpoint asks: where `question` is one, `answer` goes on.
 
 A Client and a Server open no socket: a call takes what came, and answers what is to be sent: send all of it. Each keeps a record,
 which the library writes anew at each call, and overwrites the old one. A call that raises has changed nothing: the same call may be
-made again. The module needs librezdolin.so, in the folder out at the top of the repository or where the variable REZDOLIN says, and
+made again. Of threads that call one object one after the other goes on, and no object has a copy: by two of one session, packets would
+be sealed by the same keys and numbers. The module needs librezdolin.so, in the folder out at the top of the repository or where the variable REZDOLIN says, and
 nothing else but Python's own library.
 """
 import ctypes
+import functools
 import os
 import struct
+import threading
 
 KEX = 'mlkem768x25519-sha256,curve25519-sha256,curve25519-sha256@libssh.org'
 # (the last two use a MAC)
@@ -121,7 +124,8 @@ class Password:
 
 
 class Key:
-    """A key of ssh-ed25519: of a client's user the 32 bytes of the private key, at a server the public key."""
+    """A key: of a client's user the 32 bytes of a private key of ssh-ed25519, at a server a public key of ssh-ed25519 or RSA. In a
+    question it is any bytes that the client sends."""
     method = 2
 
     def __init__(self, key):
@@ -166,7 +170,30 @@ def _fields(record):
     return fields
 
 
-class _Secret:
+def _number(number):
+    """A number that the library can be given: ctypes would cut off what is above 32 bits."""
+    if not 0 <= number < 1 << 32:
+        raise ValueError(f'{number} is out of range')
+    return number
+
+
+def _alone(call):
+    """A call of an object that another thread waits for, where it calls the same one."""
+    @functools.wraps(call)
+    def alone(self, *given, **named):
+        with self._lock:
+            return call(self, *given, **named)
+    return alone
+
+
+class _Single:
+    """What has no copy, not by pickle either."""
+
+    def __reduce_ex__(self, protocol):
+        raise TypeError(f'a {type(self).__name__} can\'t be copied')
+
+
+class _Secret(_Single):
     """Bytes that are overwritten when they are of no use any more."""
 
     def __init__(self, size):
@@ -210,11 +237,12 @@ class Question:
         self.input = last if self.kind == 'signature' else None
 
 
-class Link:
+class Link(_Single):
     """Both directions of a session, and what was agreed: its fields, numbered as include/rezdolin.h has them, but for the states of
     both directions, which it counts in and keeps to itself."""
 
     def __init__(self, session):
+        self._lock = threading.RLock()
         incoming, outgoing, *others = _fields(session.view())
         self._incoming, self._outgoing, self._seed = _Secret.of(incoming), _Secret.of(outgoing), os.urandom(32)
         self.fields = [b'', b'', *map(bytes, others)]
@@ -222,6 +250,7 @@ class Link:
         self.own_version, self.peer_version, self.host_key = self.fields[5:8]
         self.is_strict = self.fields[16] == b'\x01'
 
+    @_alone
     def seal(self, payload):
         """The packet of a payload."""
         payload, out = _octets(payload), _Secret(35000)
@@ -230,6 +259,7 @@ class Link:
             raise Refused(answer.status)
         return out.bytes(answer.len)
 
+    @_alone
     def open(self, received):
         """The payload of the packet at the front, and how many bytes it had; None where it isn't all there."""
         received, out = _octets(received), _Secret(35000)
@@ -241,7 +271,7 @@ class Link:
         return out.bytes(answer.len), answer.used
 
 
-class _Endpoint:
+class _Endpoint(_Single):
     """What a client and a server have alike. `reading` is `deployed`, or `strict`: the peer's version line is then read by
     the letter of RFC 4253 section 4.2."""
     role = None
@@ -249,7 +279,7 @@ class _Endpoint:
     def __init__(self, kex=KEX, ciphers=CIPHERS, macs=MACS, softwareversion='rezdolin', strict=True, reading='deployed'):
         if reading not in READINGS:
             raise ValueError(f'reading is one of {", ".join(READINGS)}')
-        self._record, self._session = _Secret(0), None
+        self._lock, self._record, self._session = threading.RLock(), _Secret(0), None
         self.end, self.fault, self.detail, self.left, self.question = OPEN, 0, 0, b'', None
         texts = [_text(it) for it in (softwareversion, '', kex, ciphers, ciphers, macs, macs)]
         drawn = [os.urandom(size) for size in (16, 32, 32)]
@@ -266,12 +296,14 @@ class _Endpoint:
         """Whether the user is authenticated."""
         return self.end == AUTHENTICATED
 
+    @_alone
     def begin(self):
         """What it sends first. It is called once."""
         if self._record.len or not self.is_open:
             raise ValueError('it has begun')
         return self._take(self._call('begin', None, (), 2), b'')
 
+    @_alone
     def step(self, piece):
         """Takes a piece, and answers what is sent. What it doesn't use stands in `left`: for a Link, or for what follows the answer to
         `question`, where it asks."""
@@ -281,6 +313,7 @@ class _Endpoint:
             return b''
         return self._take(self._call('step', self._record, (piece, len(piece)), 3), piece)
 
+    @_alone
     def answer(self, answer):
         """Answers the question, goes on with what is `left`, and answers what is sent: True or False, or to one for a signature the
         signature, or None. It may ask again."""
@@ -295,10 +328,11 @@ class _Endpoint:
         more = self._call('step', came[2], (self.left, len(self.left)), 3)
         return came[1] + self._take(more, self.left)
 
+    @_alone
     def disconnect(self, reason=11, description=''):
         """Ends it by a DISCONNECT, and answers that."""
         description = _text(description)
-        return self._take(self._call('disconnect', self._record, (reason, description, len(description)), 1), self.left)
+        return self._take(self._call('disconnect', self._record, (_number(reason), description, len(description)), 1), self.left)
 
     def _call(self, name, record, taken, rooms):
         """Makes a call by this record: what it answers, what is sent, the next record, and what is told."""
@@ -324,6 +358,7 @@ class _Endpoint:
         self._session = told if answer.end == AUTHENTICATED else None
         return sent
 
+    @_alone
     def link(self):
         """The session of an authenticated endpoint. It is taken once, since it counts packets: of two links each would seal by
         the same keys and numbers."""
@@ -342,6 +377,7 @@ class Client(_Endpoint):
 
     def __init__(self, user, plan, trusted_host_keys=None, **lists):
         super().__init__(**lists)
+        plan = list(plan)
         if trusted_host_keys is not None and any(isinstance(proof, Signed) for proof in plan):
             raise ValueError('a client with a key that is elsewhere asks: leave the trusted host keys out')
         attempts = [_Attempt(_lent(_text(user)), _lent(SERVICE), _lent(getattr(proof, 'algorithm', b'')), _lent(proof.bytes),
@@ -364,7 +400,7 @@ class Server(_Endpoint):
         keys = _list(_HostKey, [_HostKey(*[_lent(it) for it in key], KEY_ELSEWHERE if is_elsewhere else KEY_HERE)])
         entries = _list(_User, [_User(_lent(_text(user)), _lent(proof.bytes), proof.method) for user, proof in users or []])
         texts = [_lent(_text(it)) for it in (SERVICE, methods, required, banner)]
-        self._input = _Server(self._side, *keys, *texts, *_list(_Bytes, []), *entries, tries, users is None)
+        self._input = _Server(self._side, *keys, *texts, *_list(_Bytes, []), *entries, _number(tries), users is None)
 
 
 def public_key(private_key):

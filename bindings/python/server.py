@@ -3,9 +3,11 @@
     python3 server.py HOST-KEY USER SECRET
 
 HOST-KEY is a file with the 32 bytes of the private key; or @ and the path of a public key, as ssh-keygen writes it, by which the agent
-of SSH_AUTH_SOCK signs. SECRET is the password, or @ and the path of the user's public key.
+of SSH_AUTH_SOCK signs. SECRET is the password, or @ and the path of the user's public key. The status is 0 if the user is
+authenticated. After a minute the program is ended by SIGALRM, whatever the client does.
 """
 import hmac
+import signal
 import sys
 
 from agent import Agent, string
@@ -14,6 +16,9 @@ from rezdolin import Key, Password, Server, Signed
 
 
 def main(host_key, user, secret):
+    if not user or not secret:
+        sys.exit('server: USER or SECRET is empty')
+    signal.alarm(60)
     kind, accepted = (Key, public_key_of(secret[1:])) if secret.startswith('@') else (Password, secret.encode())
 
     def decide(question):
@@ -30,7 +35,7 @@ def main(host_key, user, secret):
         Standard.sendall(link.seal(b'\1\0\0\0\x0b' + string(b'hello ' + link.user) + string(b'')))
         print(link.user.decode(), 'from', link.peer_version.decode(), file=sys.stderr)
     else:
-        print(f'end {server.end}: F{server.fault} {server.detail}', file=sys.stderr)
+        sys.exit(f'end {server.end}: F{server.fault} {server.detail}')
 
 
 if __name__ == '__main__':

@@ -4,7 +4,9 @@
 """
 import asyncio
 import base64
+import copy
 import os
+import pickle
 import shutil
 import socket
 import subprocess
@@ -81,6 +83,40 @@ class Memory(unittest.TestCase):
         self.assertEqual([link.fields[:2] for link in links], [[b'', b'']] * 2)
         del links
         self.assertFalse(any(map(any, states)))
+
+    def test_has_no_copy(self):
+        client, server = pair(Password(b'secret'))
+        meet(client, server)
+        for single in (client, server, client._record, client.link()):
+            for way in (copy.copy, copy.deepcopy, pickle.dumps):
+                with self.assertRaises(TypeError):
+                    way(single)
+
+    def test_threads(self):
+        client, server = pair(Password(b'secret'))
+        meet(client, server)
+        ours, packets = client.link(), []
+        # (of one payload two packets are the same where they are sealed by one number)
+        threads = [threading.Thread(target=lambda: packets.extend(ours.seal(b'\2' * 5000) for _ in range(200))) for _ in range(4)]
+        for thread in threads:
+            thread.start()
+        for thread in threads:
+            thread.join()
+        self.assertEqual((len(packets), len(set(packets))), (800, 800))
+
+    def test_numbers(self):
+        for tries in (-1, 1 << 32, (1 << 32) + 6):
+            with self.assertRaises(ValueError):
+                Server(HOST, [], tries=tries)
+        client, _ = pair(Password(b'secret'))
+        client.begin()
+        with self.assertRaises(ValueError):
+            client.disconnect((1 << 32) + 11)
+        client.disconnect()
+        self.assertEqual((client.end, client.detail), (rezdolin.DISCONNECTED, 11))
+        client = Client('al', iter([Password(b'secret')]), [public_key(HOST)])
+        meet(client, Server(HOST, [('al', Password(b'secret'))]))
+        self.assertTrue(client.is_authenticated)
 
     def test_asks(self):
         accepted = {Key: public_key(USER), Password: b'secret'}

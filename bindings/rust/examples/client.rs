@@ -4,15 +4,20 @@
 //!
 //! SECRET is the password; or `@` and the path of a public key's bytes, by which the agent of `SSH_AUTH_SOCK` signs (of an RSA key by
 //! rsa-sha2-512). KEY-FILE has the host key's bytes, which `cut -d' ' -f2 host.pub | base64 -d` gives, as it does of another public
-//! key; where it is `-`, a person is asked.
+//! key; where it is `-`, a person is asked. The status is 0 if the user is authenticated, else 1; standard error has the reason. After
+//! two minutes it ends, whatever the server does.
 
 mod agent;
+mod deadline;
 
 use rezdolin::{Answer, Client, ClientParts, Draws, Proof, PublicKey, Question, Stands};
 use std::error::Error;
 use std::fs::File;
 use std::io::{Read, Write};
 use std::net::TcpStream;
+use std::time::Duration;
+
+const LIMIT: Duration = Duration::from_secs(120);
 
 /// Random bytes of the system.
 fn draw<const N: usize>() -> std::io::Result<[u8; N]> {
@@ -76,6 +81,7 @@ fn main() -> Result<(), Box<dyn Error>> {
     let [address, user, secret, path] = &words[..] else {
         return Err("client HOST:PORT USER SECRET KEY-FILE".into());
     };
+    deadline::set(LIMIT, "client: it takes too long")?;
     let draws = Draws { cookie: draw()?, exchange_random: draw()?, padding_seed: draw()? };
     let proof = match secret.strip_prefix('@') {
         None => Proof::Password(secret.clone().into_bytes()),
@@ -90,9 +96,7 @@ fn main() -> Result<(), Box<dyn Error>> {
     let mut client = Client::begin(ClientParts::asking(draws, user, vec![proof]), &mut out)?;
     carry(&mut TcpStream::connect(address)?, &mut client, trusted.as_deref(), out)?;
     let stands = client.stands().clone();
-    match client.into_link(draw()?) {
-        Some(link) => println!("{} at {}", link.user().escape_ascii(), link.peer_version().escape_ascii()),
-        None => println!("{stands:?}"),
-    }
+    let link = client.into_link(draw()?).ok_or_else(|| format!("{stands:?}"))?;
+    println!("{} at {}", link.user().escape_ascii(), link.peer_version().escape_ascii());
     Ok(())
 }

@@ -22,7 +22,10 @@ const LIMIT: Duration = Duration::from_secs(60);
 /// Reads what there is, until the deadline.
 fn receive(stream: &mut TcpStream, piece: &mut [u8], deadline: Instant) -> Result<usize, Box<dyn Error>> {
     let left = deadline.saturating_duration_since(Instant::now());
-    stream.set_read_timeout(Some(left.max(Duration::from_millis(1))))?;
+    if left.is_zero() {
+        return Err("the server takes too long".into()); // of bytes that keep coming no read takes long
+    }
+    stream.set_read_timeout(Some(left))?;
     match stream.read(piece) {
         Ok(0) => Err("the server has gone".into()),
         Err(why) if why.kind() == ErrorKind::WouldBlock => Err("the server takes too long".into()),

@@ -7,6 +7,7 @@
 //! HOST is. The status is 0 if the user is authenticated and was greeted, else 1; standard error has the reason. After 60 seconds it
 //! ends, whatever the client does.
 
+mod deadline;
 mod keys;
 
 use keys::{blob_of, draw, key_in};
@@ -22,16 +23,6 @@ const LIMIT: Duration = Duration::from_secs(60);
 /// Prints a line to standard error, if it can be printed.
 fn tell(line: &str) {
     let _ = writeln!(std::io::stderr(), "{line}");
-}
-
-/// Ends the program after the limit: a read of standard input has no timeout.
-fn set_deadline() -> std::io::Result<()> {
-    let end = || {
-        std::thread::sleep(LIMIT);
-        tell("server: the client takes too long");
-        std::process::exit(1)
-    };
-    std::thread::Builder::new().spawn(end).map(drop)
 }
 
 /// Sends all of it.
@@ -90,7 +81,7 @@ fn run() -> Result<String, Box<dyn Error>> {
     }
     let key = blob_of(key).ok_or("KEY: it is no public key of ssh-ed25519")?;
     let host_key = key_in(identity, |key| HostKey::Here(*key)).map_err(|why| format!("{identity}: {why}"))?;
-    set_deadline()?;
+    deadline::set(LIMIT, "server: the client takes too long")?;
     let draws = Draws { cookie: draw()?, exchange_random: draw()?, padding_seed: draw()? };
     let server = carry(ServerParts::new(draws, host_key, vec![(user.clone(), Proof::Key(key))]))?;
     let why = why_not(server.stands());

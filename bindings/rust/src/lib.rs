@@ -115,10 +115,10 @@ impl Side {
 pub enum Proof {
     /// By nothing: the method `none`.
     None,
-    /// By a password.
+    /// By a password. The time of `==` may tell where two differ.
     Password(Vec<u8>),
-    /// By a key of ssh-ed25519: at a client the 32 bytes of the private key, about which the server is asked first; at a
-    /// server the public key ([`public_key`]).
+    /// By a key: at a client the 32 bytes of a private key of ssh-ed25519, about which the server is asked first; at a server a
+    /// public key of ssh-ed25519 ([`public_key`]) or RSA. In a question it is any bytes that the client sends.
     Key(Vec<u8>),
     /// At a client that asks: by a key whose private half is elsewhere, as in an agent. The server is asked about it first, and then
     /// the client asks for a signature.
@@ -224,7 +224,7 @@ pub enum Stands {
     Disconnected(u32),
 }
 
-/// Why a call wasn't answered. Nothing has changed then: the same call may be made again.
+/// Why a call wasn't answered. Nothing has changed then: the same call may be made again, but `begin`, which has taken its parts.
 #[derive(Clone, Copy, Debug, PartialEq, Eq)]
 pub enum Refused {
     /// Memory ran out.
@@ -498,7 +498,8 @@ impl Client {
         &self.talk.left
     }
 
-    /// The session of an authenticated client, with 32 random bytes that served nothing else; else none.
+    /// The session of an authenticated client, with 32 random bytes that served nothing else. Copy [`left`](Client::left) first: it
+    /// goes with the client. None of any other client, which is gone, too.
     #[must_use]
     pub fn into_link(self, padding_seed: [u8; 32]) -> Option<Link> {
         self.talk.into_link(padding_seed)
@@ -628,7 +629,8 @@ impl Server {
         &self.talk.left
     }
 
-    /// The session of an authenticated server, with 32 random bytes that served nothing else; else none.
+    /// The session of an authenticated server, with 32 random bytes that served nothing else. Copy [`left`](Server::left) first: it
+    /// goes with the server. None of any other server, which is gone, too.
     #[must_use]
     pub fn into_link(self, padding_seed: [u8; 32]) -> Option<Link> {
         self.talk.into_link(padding_seed)

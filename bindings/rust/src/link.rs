@@ -65,15 +65,14 @@ impl Link {
     ///
     /// As [`LinkFault`] says.
     pub fn open(&mut self, received: &[u8]) -> Result<Option<(Vec<u8>, usize)>, LinkFault> {
-        let mut room = vec![0; 35000];
+        let mut room = Secret::room(35000);
         let state = &mut self.record.0[self.fields[0].clone()];
-        let answer = door::open(state, received, &mut room);
+        let answer = door::open(state, received, &mut room.0);
         if answer.status == 8 {
             return Ok(None);
         }
         fault_of(answer.status, answer.fault)?;
-        room.truncate(answer.len);
-        Ok(Some((room, answer.used)))
+        Ok(Some((room.0[..answer.len].to_vec(), answer.used)))
     }
 
     /// The session identifier.
@@ -106,10 +105,13 @@ impl Link {
         self.field(16) == [1]
     }
 
-    /// The field of this number of the record, as `include/rezdolin.h` numbers them.
+    /// The field of this number of the record, as `include/rezdolin.h` numbers them; none of the two states, which have the keys.
     #[must_use]
     pub fn field(&self, number: usize) -> &[u8] {
-        self.fields.get(number).map_or(&[], |place| &self.record.0[place.clone()])
+        match self.fields.get(number) {
+            Some(place) if number > 1 => &self.record.0[place.clone()],
+            _ => &[],
+        }
     }
 }
 
