@@ -4,7 +4,8 @@
  *     client USER PASSWORD-FILE KEY-FILE COMMAND <&3       (3: a socket, as bash makes one of /dev/tcp/localhost/22)
  *
  * KEY-FILE has the host key's bytes, which `cut -d' ' -f2 host.pub | base64 -d` gives; where it is `-`, a person is asked.
- * Its status is 0 where the command was run, 1 where the server didn't let it, and 2 where it can't begin. */
+ * Its status is 0 where the command was run, 1 where the server didn't let it, and 2 where it can't begin. If the user isn't
+ * authenticated after two minutes, SIGALRM ends it. */
 #define _DEFAULT_SOURCE
 #include "session.h"
 #include <stdbool.h>
@@ -140,7 +141,10 @@ int main(int argc, char **argv) {
         .server_host_key_algorithms = REZDOLIN_TEXT(REZDOLIN_HOST_KEY),
         .plan = &attempt, .plan_len = 1, .trusted_host_keys = &trusted, .trusted_host_keys_len = 1,
         .asks = strcmp(argv[3], "-") == 0};
-    bool is_run = authenticate(&client) && run(argv[4]);
+    alarm(120);
+    bool is_authenticated = authenticate(&client);
+    alarm(0);
+    bool is_run = is_authenticated && run(argv[4]);
     rezdolin_wipe(password, sizeof password);
     rezdolin_wipe(drawn, sizeof drawn);
     rezdolin_wipe(s.told, sizeof s.told);
