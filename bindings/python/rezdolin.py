@@ -10,9 +10,9 @@ Without the list of host keys, or of users, an endpoint asks: where `question` i
 
 A Client and a Server open no socket: a call takes what came, and answers what is to be sent: send all of it. Each keeps a record,
 which the library writes anew at each call, and overwrites the old one. A call that raises has changed nothing: the same call may be
-made again. Of threads that call one object one after the other goes on, and no object has a copy: by two of one session, packets would
-be sealed by the same keys and numbers. The module needs librezdolin.so, in the folder out at the top of the repository or where the variable REZDOLIN says, and
-nothing else but Python's own library.
+made again. Calls of one object by several threads run one after the other. No object can be copied: two of one session would seal
+packets by the same keys and numbers. The module needs librezdolin.so, in the folder out at the top of the repository or where the
+variable REZDOLIN says, and nothing else but Python's own library.
 """
 import ctypes
 import functools
@@ -178,7 +178,7 @@ def _number(number):
 
 
 def _alone(call):
-    """A call of an object that another thread waits for, where it calls the same one."""
+    """A call during which no other thread is in a call of the same object."""
     @functools.wraps(call)
     def alone(self, *given, **named):
         with self._lock:
@@ -187,7 +187,7 @@ def _alone(call):
 
 
 class _Single:
-    """What has no copy, not by pickle either."""
+    """An object that can't be copied, not by pickle either."""
 
     def __reduce_ex__(self, protocol):
         raise TypeError(f'a {type(self).__name__} can\'t be copied')

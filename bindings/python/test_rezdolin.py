@@ -96,8 +96,13 @@ class Memory(unittest.TestCase):
         client, server = pair(Password(b'secret'))
         meet(client, server)
         ours, packets = client.link(), []
-        # (of one payload two packets are the same where they are sealed by one number)
-        threads = [threading.Thread(target=lambda: packets.extend(ours.seal(b'\2' * 5000) for _ in range(200))) for _ in range(4)]
+
+        def seal():
+            # (of one payload two packets are the same where they are sealed by one number)
+            for _ in range(200):
+                packets.append(ours.seal(b'\2' * 5000))
+
+        threads = [threading.Thread(target=seal) for _ in range(4)]
         for thread in threads:
             thread.start()
         for thread in threads:
