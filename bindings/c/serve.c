@@ -3,8 +3,9 @@
  *
  *     serve PORT KEY-FILE USER PASSWORD-FILE
  *
- * KEY-FILE has the 32 bytes of the private host key. With 0 for PORT the system picks one; the first line that it prints is the
- * port. Then it prints a line for each connection that ends. It listens on 127.0.0.1 alone, until it is killed. */
+ * KEY-FILE has the 32 bytes of the private host key, PASSWORD-FILE the 1 to 1024 bytes of the password. With 0 for PORT the system
+ * picks one; the first line that it prints is the port. Then it prints a line for each connection that ends. It listens on 127.0.0.1
+ * alone, until it is killed. Its status is 2 where it can't begin. */
 #define _DEFAULT_SOURCE
 #include "rezdolin.h"
 #include <arpa/inet.h>
@@ -169,8 +170,10 @@ int main(int argc, char **argv) {
     host_key.key = bytes_of(argv[2], key, sizeof key);
     user.user = (rezdolin_bytes){(const uint8_t *)argv[3], strlen(argv[3])};
     user.proof = bytes_of(argv[4], password, sizeof password);
-    if (host_key.key.len != 32 || user.proof.len == 0 || user.proof.len > 1024 || user.user.len == 0)
+    if (host_key.key.len != 32 || user.user.len == 0 || user.proof.len == 0 || user.proof.len > 1024) {
+        fprintf(stderr, "serve: KEY-FILE has 32 bytes, USER 1 to 200, PASSWORD-FILE 1 to 1024\n");
         return 2;
+    }
     struct sockaddr_in address = {.sin_family = AF_INET, .sin_port = htons((uint16_t)atoi(argv[1])), .sin_addr.s_addr = htonl(INADDR_LOOPBACK)};
     socklen_t size = sizeof address;
     int listening = socket(AF_INET, SOCK_STREAM, 0);
