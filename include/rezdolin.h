@@ -18,7 +18,9 @@
  *
  *   1. Look at `status` first. Where it isn't REZDOLIN_ANSWERED nothing has changed but the front of `told`: go on with the old
  *      record. The same call may be made again.
- *   2. Send all of `out` after each answered call, also where the endpoint has ended.
+ *   2. STORE, THEN SEND: store `next` and `out` together, and send `out` after that. A program that ends between sending `out` and
+ *      storing `next` goes on from the older record, which is rule 3. Two variables that are exchanged in memory are such a store.
+ *      Send all of `out` after each answered call, also where the endpoint has ended.
  *   3. USE A RECORD FOR ONE ANSWERED CALL, and then only the next one. If you use a record twice and send what came of both, two
  *      packets are sealed with one key and one number: who listens can read and forge packets.
  *   4. ALL PARTS OF A CONNECTION ARE THE SAME IN ALL ITS CALLS: lists, keys, draws, users. A list that is read anew between two
@@ -31,7 +33,10 @@
  *      one of the connection is taken, too. Overwrite a record by rezdolin_wipe when the next one is there. What you put in, `told`,
  *      and the states in a session are secret, too. The library wipes nothing by itself: memory that it used and freed may still
  *      have keys.
- *   6. Draw anew for each connection. With draws that were used before, what a client once sent is accepted again.
+ *   6. DRAW ANEW FOR EACH CONNECTION. With draws that were used before, what a client once sent is accepted again. FORK: a process that
+ *      forks after the draws were made, or with a record or a session's state at hand, goes on with the connection in one process only.
+ *      The other one draws anew for each of its connections, and overwrites what it got. A draw whose bytes are all equal, as in a
+ *      buffer that nobody has filled, is REZDOLIN_DRAWS; no call can tell whether other bytes were drawn.
  *   7. Close a connection that takes too long to authenticate: no call knows the time.
  *   8. No pointer is null, also where its length is 0: for no bytes write REZDOLIN_TEXT(""), for an empty list the address of any
  *      entry. `next`, `out` and `told` overlap neither each other nor anything that is read. Nothing else is asked of a caller:
@@ -39,7 +44,8 @@
  *
  * A call's work is that of the parts, the record and the piece, however much came before. That of a step that only holds a part of a
  * packet is to copy the record. The record holds an unfinished packet, so read what there is, rather than byte by byte. Calls of
- * several threads share nothing; for one connection make one call after the other.
+ * several threads share nothing; for one connection make one call after the other. A signal handler may run within a call: let it make
+ * no call with a record or a state that may be in one (for a deadline: set a flag, or end the process).
  *
  * Link librezdolin.a and then liblibc_c.a, which ties it to malloc, realloc and free. docs/ERRORS.md has tables of the codes C1 and
  * so on ("Refused configs"), and F1 and so on ("Why it ended"). */
@@ -93,10 +99,10 @@ enum {
     REZDOLIN_MEMORY = 1,     /* memory ran out */
     REZDOLIN_CONFIG = 2,     /* the parts make no config; `config` says why */
     REZDOLIN_UNREADABLE = 3, /* a number isn't one of its field's (0 too where 0 isn't one); a text isn't UTF-8; an entry of
-                              * `users` has no user, no proof where its method needs one, or one where it needs none; a key is
-                              * said to be elsewhere and `asks` is 0; an answer is no answer's number, or has a signature where
-                              * it needs none, or none where it needs one. Of the other calls: a secret hasn't its length, or a
-                              * state isn't one */
+                              * `users` has no user, no proof where its method needs one, one where it needs none, or a password of
+                              * more than 1024 bytes; a key is said to be elsewhere and `asks` is 0; an answer is no answer's number,
+                              * or has a signature where it needs none, or none where it needs one. Of the other calls: a secret
+                              * hasn't its length, or a state isn't one */
     REZDOLIN_ROOM = 4,       /* a room is too small: of an endpoint `sent_len`, `record_len` and `told_len` say what `out`,
                               * `next` and `told` have to take; of the other calls `len` says it for `out` */
     REZDOLIN_PAYLOAD = 5,    /* a payload has 1 to 32768 bytes */
@@ -107,7 +113,9 @@ enum {
                               * none. That nobody has changed a record isn't checked */
     REZDOLIN_PARTS = 10,     /* the record is one for other parts than these, or for the other role */
     REZDOLIN_UNASKED = 11,   /* the endpoint asks nothing, or something that is answered otherwise */
-    REZDOLIN_IDENTITY = 12   /* a text has no private key that can be used; `fault` says why */
+    REZDOLIN_IDENTITY = 12,  /* a text has no private key that can be used; `fault` says why */
+    REZDOLIN_DRAWS = 13      /* a draw has bytes that are all equal: nobody has filled it. Of the calls of an endpoint `cookie`,
+                              * `exchange_random` or `padding_seed` of the side, of rezdolin_seal `padding_seed` */
 };
 
 /* How an endpoint stands. Only at REZDOLIN_OPEN and REZDOLIN_ASKS is there a record to go on with. */
@@ -157,7 +165,7 @@ enum {
 };
 
 /* What both sides have. A list of names is its text, with single commas between the names; no bytes are the empty
- * list. Draws are random bytes for one connection, which nobody can foresee. */
+ * list. Draws are random bytes for one connection, which nobody can foresee (rule 6). */
 typedef struct rezdolin_side {
     rezdolin_bytes softwareversion; /* of the version line */
     rezdolin_bytes comments;        /* of the version line; no bytes: none */
@@ -205,11 +213,12 @@ typedef struct rezdolin_host_key {
 
 /* What one user is accepted by. A user may have several entries. One that can't be read makes the whole list
  * REZDOLIN_UNREADABLE. A key may be of ssh-ed25519 or of RSA (its blob is named ssh-rsa): a client that asks (RFC 8308) is told
- * server-sig-algs "ssh-ed25519,rsa-sha2-512,rsa-sha2-256" right after NEWKEYS, whatever the entries are. Passwords are compared in
- * a time that doesn't tell where they differ. */
+ * server-sig-algs "ssh-ed25519,rsa-sha2-512,rsa-sha2-256" right after NEWKEYS, whatever the entries are. Each request is
+ * compared with each entry in full, so its time tells neither who is a user nor where a password differs; it grows with the list. A
+ * request by a password of more than 1024 bytes is refused without a look. */
 typedef struct rezdolin_user {
     rezdolin_bytes user;  /* not empty */
-    rezdolin_bytes proof; /* the password, or the public key as a request has it, not empty; of NONE no bytes */
+    rezdolin_bytes proof; /* the password, at most 1024 bytes, or the public key as a request has it, not empty; of NONE no bytes */
     uint32_t method;      /* REZDOLIN_METHOD_NONE, _PASSWORD or _PUBLICKEY; with NONE the user is accepted without a proof */
 } rezdolin_user;
 
@@ -223,7 +232,7 @@ typedef struct rezdolin_server_input {
     rezdolin_bytes banner;   /* no bytes: none is sent */
     const rezdolin_bytes *notice_lines; /* before the version line */
     size_t notice_lines_len;
-    const rezdolin_user *users; /* read whole by each call: with a long list set `asks` */
+    const rezdolin_user *users; /* read whole by each call, and by each request once more: with a long list set `asks` */
     size_t users_len;
     uint32_t tries; /* the request at which a failure ends the session, 1 to 20 */
     uint32_t asks;  /* 1: you are asked who is accepted, and for signatures; `users` isn't read; or 0 */
@@ -231,7 +240,7 @@ typedef struct rezdolin_server_input {
 
 /* What a call of an endpoint answers. Where `status` isn't REZDOLIN_ANSWERED all else is 0 but what says why. */
 typedef struct rezdolin_step_answer {
-    uint32_t status; /* REZDOLIN_ANSWERED, _MEMORY, _CONFIG, _UNREADABLE, _ROOM, _RECORD, _PARTS or _UNASKED */
+    uint32_t status; /* REZDOLIN_ANSWERED, _MEMORY, _CONFIG, _UNREADABLE, _ROOM, _RECORD, _PARTS, _UNASKED or _DRAWS */
     uint32_t config; /* of REZDOLIN_CONFIG: 1 for C1 and so on; 13: a list names an algorithm that the library hasn't; 14: a
                       * private key that is here isn't 32 bytes of ssh-ed25519, or what stands for one that is elsewhere isn't a
                       * public key. By its form that is a string with the name ssh-ed25519 and one of 32 bytes, or a string with
@@ -305,8 +314,16 @@ rezdolin_bytes_answer rezdolin_public_key(const uint8_t *private_key, size_t pri
 /* The private key in the text of a file as `ssh-keygen -t ed25519` writes it: its 32 bytes, for an attempt or a host key. Where there is
  * none it answers REZDOLIN_IDENTITY, and `fault` is 1: no key; 2: a public key; 3: a private key in another form, as PEM; 4: it has a
  * passphrase; 5: it is of RSA, 6: of ECDSA, 7: of another kind; 8: several keys, or none; 9: it ends too early; 10: its public key
- * isn't that of its private one; 11: what fills it up is wrong. */
+ * isn't that of its private one; 11: what fills it up is wrong. Bytes that are no UTF-8, as some other forms of key files have, are
+ * REZDOLIN_UNREADABLE. */
 rezdolin_bytes_answer rezdolin_read_identity(const uint8_t *text, size_t text_len, uint8_t *out, size_t out_len);
+
+/* Whether a signature of `input` is right, by this algorithm and this public key: REZDOLIN_YES, or REZDOLIN_NO. 0 is neither: it wasn't
+ * looked at, since the library verifies no such algorithm (it verifies ssh-ed25519, rsa-sha2-512 and rsa-sha2-256), the name can't be
+ * read, an argument is too long, or memory ran out. `signature` is all that ssh-agent gives, the algorithm's name too. Compare the
+ * answer with REZDOLIN_YES: never take 0 for a yes. */
+uint32_t rezdolin_is_signed(const uint8_t *algorithm, size_t algorithm_len, const uint8_t *key, size_t key_len, const uint8_t *input,
+                            size_t input_len, const uint8_t *signature, size_t signature_len);
 
 /* Seals a payload of 1 to 32768 bytes. `state` is REZDOLIN_OUTGOING of a session's record, and is made that of the next packet: never
  * seal by a copy of it, too. `padding_seed` has 32 bytes drawn for this session alone, not those of the side. */
@@ -350,7 +367,7 @@ enum {
     REZDOLIN_ASKS_SIGNATURE = 2 /* a signature of REZDOLIN_QUESTION_INPUT, by this key and this algorithm. It is a uint32 with the
                                  * length of the algorithm's name, the name, a uint32 with the length of the signature's own bytes,
                                  * and these (RFC 4253 section 6.6), as ssh-agent gives it, and has at most 8192 bytes. Verify one of
-                                 * RSA before you hand it in: a faulty one can give the private key away */
+                                 * RSA by rezdolin_is_signed before you hand it in: a faulty one can give the private key away */
 };
 
 /* The fields of a question (rezdolin_field, with `told_len`, never the room's length). Any of them may be what the peer wants it
@@ -363,8 +380,9 @@ enum {
     REZDOLIN_QUESTION_METHOD = 4,    /* of a user: REZDOLIN_METHOD_, in 4 bytes, the highest first. With NONE nothing is proved */
     REZDOLIN_QUESTION_ALGORITHM = 5, /* of a host key: the agreed one; of a user's: as the request names it. Decide by the key. Of a
                                       * signature: its algorithm */
-    REZDOLIN_QUESTION_KEY = 6,       /* the server's public key, the user's, or the one to sign by. Show a person its SHA-256 in base64,
-                                      * which OpenSSH calls its fingerprint. A yes accepts the key; a signature is verified after it */
+    REZDOLIN_QUESTION_KEY = 6,       /* the server's public key, the user's, or the one to sign by. Show a person all of its SHA-256 in
+                                      * base64, which OpenSSH calls its fingerprint, or all of its base64, which the .pub file has, and
+                                      * let it type parts that you draw. A yes accepts the key; a signature is verified after it */
     REZDOLIN_QUESTION_PASSWORD = 7,  /* of a user: the password, secret. Compare it in a time that doesn't tell where it differs */
     REZDOLIN_QUESTION_INPUT = 7      /* of a signature: what is to be signed */
 };

@@ -9,7 +9,10 @@ BRACED = re.compile(r"\{([^{}]*)\}")
 REPEATED = re.compile(r"(\d+)\*(.*)", re.S)
 SUM = re.compile(r"(\d+)([+-])(\d+)")
 SLICE = re.compile(r"([0-9a-f]*) (\d+)\.\.(\d+)")
-WAYS = {"stdin": ("folder", "unread", "closed", "terminal"), "stdout": ("full", "closed", "gone"), "stderr": ("full", "gone")}
+WAYS = {"stdin": ("folder", "unread", "closed", "terminal", "bytewise"), "stdout": ("full", "closed", "gone", "bytewise"),
+        "stderr": ("full", "gone", "bytewise")}
+# ways after which a number of bytes stands
+AFTER = {"stdin": ("fails", "interrupted"), "stdout": ("fails", "interrupted", "idle"), "stderr": ("fails", "interrupted", "idle")}
 
 
 class Bad(Exception):
@@ -27,7 +30,18 @@ class Case:
         self.output = b"".join(bytes_of(expanded(text, values)) + end for text, end in block.output)
         self.faults = b"".join(bytes_of(expanded(text, values)) + end for text, end in block.faults)
         self.status = block.status
-        self.ways = block.ways
+        self.ways = {name: expanded(way, values) for name, way in block.ways.items()}
+        # by stream the number of bytes after which a call fails, where one does
+        self.after = {name: count_of(way) for name, way in self.ways.items() if " " in way}
+        self.output, self.faults = self.output[:self.after.get("stdout")], self.faults[:self.after.get("stderr")]
+
+
+def count_of(way):
+    """The number of bytes that follows a way."""
+    count = way.partition(" ")[2]
+    if not count.isdigit():
+        raise Bad("no number of bytes: %s" % way)
+    return int(count)
 
 
 class Block:
@@ -157,7 +171,7 @@ class Reader:
             block.status = int(rest)
         elif key == "each":
             block.tables.append(self.tables[rest])
-        elif rest in WAYS.get(key, ()):
+        elif rest in WAYS.get(key, ()) or " " in rest and rest.split(" ")[0] in AFTER.get(key, ()):
             block.ways[key] = rest
         else:
             raise Bad("no line of a case")

@@ -34,11 +34,12 @@ with_clock() {
   done
 }
 
-# Runs a command whose last line is 'N passed, M failed', shows what it prints, and adds its counts.
+# Runs a command whose last line is 'N passed, M failed', shows what it prints, and adds its counts. Where `copy_to` names a
+# file, what it prints goes there too.
 part() {
   local begun=$SECONDS status=0
   begin_part "$*"
-  { "$@" || echo "$?" >"$log.status"; } | tee "$log" | with_clock
+  { "$@" || echo "$?" >"$log.status"; } | tee "$log" ${copy_to:+"$copy_to"} | with_clock
   if [ -e "$log.status" ]; then
     status=$(cat "$log.status")
     rm "$log.status"

@@ -94,7 +94,7 @@ static size_t greet(const connection *c, size_t told_len, size_t at) {
     return at + (a.status == REZDOLIN_ANSWERED ? a.len : 0);
 }
 
-/* Takes what a call answered. */
+/* Takes what a call answered: the record is kept before anything is sent. */
 static void go_on(connection *c, rezdolin_step_answer a) {
     if (a.status != REZDOLIN_ANSWERED) { /* memory ran out: this connection ends, the others go on */
         end_connection(c, "status", a.status);

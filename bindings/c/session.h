@@ -38,7 +38,7 @@ static inline int receive(int end, session *s) {
 }
 
 /* Carries a client until it has ended, or the socket has: then it is still REZDOLIN_OPEN. What came after its end stays in
- * `came`. */
+ * `came`. The records are exchanged before anything is sent, so no record is used twice, whatever comes of sending. */
 static inline rezdolin_step_answer carry(session *s, const rezdolin_client_input *client, int end, decider *decide) {
     uint8_t signature[8192];
     kept *record = &s->records[0], *next = &s->records[1], *old;

@@ -75,7 +75,7 @@ static bool is_either(int kind, int server, const uint8_t *at, size_t len, unsig
 
 /* Each part is changed between two calls. */
 static void parts(void) {
-    static uint8_t bytes[32], key[51];
+    static uint8_t bytes[32] = {1}, key[51];
     for (int n = 0; n < 24; n++) {
         begin(&s, 50);
         go_to(CLIENT, 2);
@@ -296,6 +296,113 @@ static void zeros(void) {
     row("a user of zeros", is_refusal(call_begin(&s, SERVER), REZDOLIN_UNREADABLE, 0));
 }
 
+/* Draws whose bytes are all equal, in each place, by each call; and with one other byte. */
+static void undrawn(void) {
+    static const uint8_t fillings[4] = {0, 0xff, 7, 0x80};
+    static uint8_t bytes[32];
+    rezdolin_bytes draw = {bytes, 32};
+    for (int n = 0; n < 24; n++) {
+        int server = n % 2;
+        begin(&s, 59);
+        go_to(CLIENT, 2), go_to(SERVER, 2);
+        rezdolin_side *side = server ? &s.server.side : &s.client.side;
+        *(n / 2 % 3 == 0 ? &side->cookie : n / 2 % 3 == 1 ? &side->exchange_random : &side->padding_seed) = draw;
+        side->cookie.len = 16;
+        const uint8_t *at = record_of(server);
+        size_t len = s.sides[server].record_len;
+        memset(bytes, fillings[n / 6], sizeof bytes);
+        memset(next, 7, sizeof next), memset(out, 7, sizeof out), memset(told, 7, sizeof told);
+        rezdolin_step_answer a = server ? rezdolin_server_begin(&s.server, next, sizeof next, out, sizeof out)
+                                        : rezdolin_client_begin(&s.client, next, sizeof next, out, sizeof out);
+        row("a draw that nobody has made", is_refusal(a, REZDOLIN_DRAWS, 0) && are_left(DISCONNECT) && are_refused(server, at, len, REZDOLIN_DRAWS));
+        bool holds = true;
+        for (size_t k = 0; k < 16; k++) {
+            bytes[k] ^= 1;
+            a = call_begin(&s, server);
+            holds = holds && a.status == REZDOLIN_ANSWERED && a.record_len > 0 && a.sent_len > 0;
+            bytes[k] ^= 1;
+        }
+        row("a draw of which one byte is another", holds);
+    }
+}
+
+/* Seeds of padding whose bytes are all equal: nothing is sealed, and the state is left. */
+static void unseeded(void) {
+    static uint8_t seed[32], opened[REZDOLIN_PACKET_ROOM];
+    begin(&s, 59);
+    meet(&s, 65536);
+    rezdolin_bytes state = field(&s, CLIENT, REZDOLIN_OUTGOING), in = field(&s, SERVER, REZDOLIN_INCOMING);
+    memcpy(record, state.at, state.len);
+    bool holds = are_authenticated(&s);
+    for (unsigned byte = 0; byte < 256; byte++) {
+        memset(seed, (int)byte, sizeof seed), memset(out, 7, sizeof out);
+        rezdolin_bytes_answer a = rezdolin_seal((uint8_t *)state.at, state.len, seed, 32, some.at, some.len, out, sizeof out);
+        holds = holds && a.status == REZDOLIN_DRAWS && a.fault == 0 && a.used == 0 && a.len == 0 && is_full_of(out, sizeof out, 7)
+                && memcmp(record, state.at, state.len) == 0;
+    }
+    row("a seed that nobody has drawn", holds);
+    for (size_t n = 0; n < 32; n++) {
+        seed[n] = 7;
+        rezdolin_bytes_answer a = rezdolin_seal((uint8_t *)state.at, state.len, seed, 32, some.at, some.len, out, sizeof out);
+        rezdolin_bytes_answer b = rezdolin_open((uint8_t *)in.at, in.len, out, a.len, opened, sizeof opened);
+        holds = holds && a.status == REZDOLIN_ANSWERED && b.status == REZDOLIN_ANSWERED && equal((rezdolin_bytes){opened, b.len}, some);
+        seed[n] = 255;
+    }
+    row("a seed of which one byte is another", holds);
+}
+
+static uint32_t is_signed(const char *algorithm, rezdolin_bytes key, rezdolin_bytes input, rezdolin_bytes signature) {
+    return rezdolin_is_signed((const uint8_t *)algorithm, strlen(algorithm), key.at, key.len, input.at, input.len, signature.at, signature.len);
+}
+
+/* Signatures that are right, wrong, and not looked at. The key is that of RFC 8032 section 7.1, TEST 2. */
+static void signatures(void) {
+    static const uint8_t secret[32] = {0x4c, 0xcd, 0x08, 0x9b, 0x28, 0xff, 0x96, 0xda, 0x9d, 0xb6, 0xc3, 0x46, 0xec, 0x11, 0x4e, 0x0f,
+                                       0x5b, 0x8a, 0x31, 0x9f, 0x35, 0xab, 0xa6, 0x24, 0xda, 0x8c, 0xf6, 0xed, 0x4f, 0xb8, 0xa6, 0xfb};
+    static const uint8_t own[64] = {0x92, 0xa0, 0x09, 0xa9, 0xf0, 0xd4, 0xca, 0xb8, 0x72, 0x0e, 0x82, 0x0b, 0x5f, 0x64, 0x25, 0x40,
+                                    0xa2, 0xb2, 0x7b, 0x54, 0x16, 0x50, 0x3f, 0x8f, 0xb3, 0x76, 0x22, 0x23, 0xeb, 0xdb, 0x69, 0xda,
+                                    0x08, 0x5a, 0xc1, 0xe4, 0x3e, 0x15, 0x99, 0x6e, 0x45, 0x8f, 0x36, 0x13, 0xd0, 0xf1, 0x1d, 0x8c,
+                                    0x38, 0x7b, 0x2e, 0xae, 0xb4, 0x30, 0x2a, 0xee, 0xb0, 0x0d, 0x29, 0x16, 0x12, 0xbb, 0x0c, 0x00};
+    static const char *const others[8] = {"ecdsa-sha2-nistp256", "sk-ssh-ed25519@openssh.com", "ssh-rsa", "rsa-sha2-512@x", "", "none", "\xff", "ssh-ed25519,"};
+    uint8_t public[64], signature[83] = "\0\0\0\x0bssh-ed25519\0\0\0\x40";
+    rezdolin_bytes key = {public, public_key(secret, public, sizeof public)}, whole = {signature, sizeof signature};
+    memcpy(signature + 19, own, sizeof own);
+    row("a right signature", is_signed("ssh-ed25519", key, TEXT("\x72"), whole) == REZDOLIN_YES);
+    bool holds = true;
+    for (size_t n = 0; n < sizeof signature; n++) {
+        signature[n] ^= 1;
+        holds = holds && is_signed("ssh-ed25519", key, TEXT("\x72"), whole) == REZDOLIN_NO;
+        signature[n] ^= 1;
+        holds = holds && is_signed("ssh-ed25519", key, TEXT("\x72"), (rezdolin_bytes){signature, n}) == REZDOLIN_NO;
+    }
+    row("one with another byte, or cut", holds);
+    row("one of another input", is_signed("ssh-ed25519", key, TEXT("\x73"), whole) == REZDOLIN_NO && is_signed("ssh-ed25519", key, none, whole) == REZDOLIN_NO);
+    begin(&s, 59);
+    row("one by another key", is_signed("ssh-ed25519", s.trusted, TEXT("\x72"), whole) == REZDOLIN_NO && is_signed("ssh-ed25519", none, TEXT("\x72"), whole) == REZDOLIN_NO);
+    row("one by another algorithm", is_signed("rsa-sha2-512", key, TEXT("\x72"), whole) == REZDOLIN_NO);
+    holds = true;
+    for (int n = 0; n < 8; n++)
+        holds = holds && is_signed(others[n], key, TEXT("\x72"), whole) == 0;
+    row("one that isn't looked at", holds);
+}
+
+/* Passwords of 1024 bytes, and of more, in the list and in a request. */
+static void long_passwords(void) {
+    static uint8_t password[1025];
+    memset(password, 'x', sizeof password);
+    for (size_t len = 1024; len < 1026; len++) {
+        begin(&s, 59);
+        s.client.plan = s.plan + 1, s.client.plan_len = 1;
+        s.users[1].proof = (rezdolin_bytes){password, len};
+        s.plan[1].secret = (rezdolin_bytes){password, 1024};
+        meet(&s, 65536);
+        row("a user with a long password", len == 1024 ? are_authenticated(&s) : is_refusal(s.sides[SERVER].last, REZDOLIN_UNREADABLE, 0));
+        begin(&s, 59);
+        s.plan[1].secret = (rezdolin_bytes){password, len};
+        row("a plan with a long password", len == 1024 ? call_begin(&s, CLIENT).status == REZDOLIN_ANSWERED : is_refusal(call_begin(&s, CLIENT), REZDOLIN_CONFIG, 6));
+    }
+}
+
 /* A blob of these fields, each a string, the first a name. */
 static rezdolin_bytes blob(const char *name, size_t count, const rezdolin_bytes *fields) {
     static uint8_t room[4096];
@@ -411,6 +518,10 @@ int main(int argc, char **argv) {
     twice();
     unasked();
     zeros();
+    undrawn();
+    unseeded();
+    signatures();
+    long_passwords();
     elsewhere();
     ends();
     return counted();

@@ -10,6 +10,7 @@ user is authenticated. After two minutes the program is ended by SIGALRM.
 import base64
 import hashlib
 import os
+import secrets
 import signal
 import socket
 import sys
@@ -45,10 +46,22 @@ def carry(endpoint, end, decide=None):
 
 
 def is_trusted(key):
-    """Shows a person the key as OpenSSH does, and asks whether it is the server's: by characters that only the question tells,
-    since a `y` may have been typed before it stood there."""
+    """Shows a person the key's fingerprint as OpenSSH does, in groups of four characters too, and asks whether the key is the server's:
+    the person types three groups that are drawn from the whole of it. A `y` may have been typed before the question stood there; and
+    who makes keys until one has a fingerprint that looks alike doesn't know which groups are compared."""
     digest = base64.b64encode(hashlib.sha256(key).digest()).decode().rstrip('=')
-    return input(f"the server's key is SHA256:{digest}: type its first 6 characters to trust it: ") == digest[:6]
+    groups = [digest[at:at + 4] for at in range(0, len(digest), 4)]
+    cells = [f'{number:3} {group}' for number, group in enumerate(groups, 1)]
+    # (of the last group one character lacks)
+    one, two, three = sorted(secrets.SystemRandom().sample(range(1, len(groups)), 3))
+    print(f"the server's key is SHA256:{digest}", ' '.join(cells[:6]), ' '.join(cells[6:]), sep='\n')
+    # (at a terminal `input` itself writes to standard error)
+    print(f"compare all of it with the fingerprint that the server's owner gives you; to trust it, type groups {one}, {two} and {three}: ", end='', flush=True)
+    try:
+        typed = input()
+    except EOFError:
+        return False
+    return typed.replace(' ', '').replace('\t', '') == groups[one - 1] + groups[two - 1] + groups[three - 1]
 
 
 def bytes_of(path):

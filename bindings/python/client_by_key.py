@@ -48,12 +48,13 @@ def why_not(client):
     return 'the server has gone'
 
 
-def seconds_until(deadline):
-    """The seconds that are left, or TimeoutError where there are none: of bytes that keep coming no read takes long."""
+def receive(end, deadline):
+    """What has come, nothing where the server has gone; TimeoutError after the deadline, also where bytes keep coming."""
     left = deadline - time.monotonic()
     if left <= 0:
         raise TimeoutError('the server takes too long')
-    return left
+    end.settimeout(left)
+    return end.recv(4096)
 
 
 def main(host, port, user, identity, host_key):
@@ -61,11 +62,7 @@ def main(host, port, user, identity, host_key):
     deadline = time.monotonic() + SECONDS
     with socket.create_connection((host, port), SECONDS) as end:
         end.sendall(client.begin())
-        while client.is_open:
-            end.settimeout(seconds_until(deadline))
-            piece = end.recv(4096)
-            if not piece:
-                break
+        while client.is_open and (piece := receive(end, deadline)):
             end.sendall(client.step(piece))
     if not client.is_authenticated:
         raise ValueError(why_not(client))

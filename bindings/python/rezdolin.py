@@ -10,9 +10,17 @@ Without the list of host keys, or of users, an endpoint asks: where `question` i
 
 A Client and a Server open no socket: a call takes what came, and answers what is to be sent: send all of it. Each keeps a record,
 which the library writes anew at each call, and overwrites the old one. A call that raises has changed nothing: the same call may be
-made again. Calls of one object by several threads run one after the other. No object can be copied: two of one session would seal
-packets by the same keys and numbers. The module needs librezdolin.so, in the folder out at the top of the repository or where the
-variable REZDOLIN says, and nothing else but Python's own library.
+made again. Calls of one object by several threads run one after the other. Two packets of one session must not be sealed by the same
+keys and number, so:
+
+- No object can be copied. Its record is nowhere else: a connection can't go on after its process has ended.
+- An endpoint belongs to the process that called `begin`, a Link to the one that made it. In another process, as after a fork, each
+  call raises RuntimeError. An endpoint that hasn't begun may begin in any process: `begin` makes its draws.
+- A call within a call of the same object, from a signal handler, a finalizer or a trace function, raises RuntimeError.
+- If a handler's exception ends a call, as KeyboardInterrupt does, close the connection: what the call had to send may be lost.
+
+The module needs librezdolin.so, in the folder out at the top of the repository or where the variable REZDOLIN says, and nothing else
+but Python's own library.
 """
 import ctypes
 import functools
@@ -25,7 +33,7 @@ KEX = 'mlkem768x25519-sha256,curve25519-sha256,curve25519-sha256@libssh.org'
 CIPHERS = 'chacha20-poly1305@openssh.com,aes256-gcm@openssh.com,aes128-gcm@openssh.com,aes256-ctr,aes128-ctr'
 MACS = 'hmac-sha2-256-etm@openssh.com,hmac-sha2-512-etm@openssh.com,hmac-sha2-256,hmac-sha2-512'
 HOST_KEY, SERVICE = b'ssh-ed25519', b'ssh-connection'
-ANSWERED, MEMORY, CONFIG, UNREADABLE, ROOM, PAYLOAD, USED_UP, PACKET, MORE, RECORD, PARTS, UNASKED, IDENTITY = range(13)
+ANSWERED, MEMORY, CONFIG, UNREADABLE, ROOM, PAYLOAD, USED_UP, PACKET, MORE, RECORD, PARTS, UNASKED, IDENTITY, DRAWS = range(14)
 OPEN, AUTHENTICATED, FAILED, CLOSED, DISCONNECTED, ASKS = range(6)
 YES, NO, SIGNATURE, NO_SIGNATURE = range(1, 5)
 KEY_HERE, KEY_ELSEWHERE = 1, 2
@@ -34,6 +42,8 @@ IDENTITY_FAULTS = ['', 'is no private key', 'is a public key', 'is a private key
                    'is a key of another kind', 'has several keys, or none', 'ends too early', 'has two halves that aren\'t of one key', 'is filled up wrongly']
 # what a question is on, by its number
 KINDS = ['host key', 'user', 'signature']
+# what is drawn for each connection, and how many bytes it has
+DRAWN = {'cookie': 16, 'exchange_random': 32, 'padding_seed': 32}
 # by which grammar the peer's version line is read: as deployed peers write it, or by the letter of RFC 4253 section 4.2
 READINGS = {'deployed': 0, 'strict': 1}
 
@@ -79,6 +89,7 @@ _CALLS = {
     'rezdolin_wipe': (None, _WRITTEN),
     'rezdolin_public_key': (_BytesAnswer, _READ + _WRITTEN),
     'rezdolin_read_identity': (_BytesAnswer, _READ + _WRITTEN),
+    'rezdolin_is_signed': (ctypes.c_uint32, 4 * _READ),
     'rezdolin_seal': (_BytesAnswer, _WRITTEN + 2 * _READ + _WRITTEN),
     'rezdolin_open': (_BytesAnswer, _WRITTEN + _READ + _WRITTEN),
 }
@@ -105,7 +116,8 @@ class Refused(Exception):
         what = {MEMORY: 'memory ran out', CONFIG: config.get(number, f'C{number}'), UNREADABLE: 'what was put in can\'t be read', ROOM: 'no room',
                 PAYLOAD: 'a payload has 1 to 32768 bytes', USED_UP: 'keys used up', PACKET: f'P{number}', RECORD: 'there is no record to go on with',
                 PARTS: 'the parts have changed', UNASKED: 'nothing is asked that this answers',
-                IDENTITY: 'the text ' + IDENTITY_FAULTS[number if status == IDENTITY else 0]}
+                IDENTITY: 'the text ' + IDENTITY_FAULTS[number if status == IDENTITY else 0],
+                DRAWS: 'the draws have bytes that are all equal: a buffer that nobody filled'}
         super().__init__(what[status])
         self.status, self.number = status, number
 
@@ -177,12 +189,42 @@ def _number(number):
     return number
 
 
+_forks = 0
+
+
+def _count_fork():
+    global _forks
+    _forks += 1
+
+
+if hasattr(os, 'register_at_fork'):
+    os.register_at_fork(after_in_child=_count_fork)
+
+
+def _this_process():
+    """What tells this process from those that have copies of its objects. The number alone doesn't: it is given again, and in a
+    container several processes may have it."""
+    return os.getpid(), _forks
+
+
 def _alone(call):
-    """A call during which no other thread is in a call of the same object."""
+    """A call in the object's own process, during which there is no other call of the object. Another thread waits. A call within a call
+    in the same thread raises, and has changed nothing."""
     @functools.wraps(call)
     def alone(self, *given, **named):
+        # (at a fork another thread may have had the lock, which it never releases in the child)
+        self._check_process()
+        # A lock that the same thread may take again, and a flag: so a handler never waits for the call that it interrupts. If it comes
+        # before the flag is set, its call ends before this one has read anything.
         with self._lock:
-            return call(self, *given, **named)
+            if self._is_called:
+                raise RuntimeError(f'a call within a call of this {type(self).__name__}')
+            try:
+                self._is_called = True
+                self._check_process()
+                return call(self, *given, **named)
+            finally:
+                self._is_called = False
     return alone
 
 
@@ -193,13 +235,26 @@ class _Single:
         raise TypeError(f'a {type(self).__name__} can\'t be copied')
 
 
+class _Sequence(_Single):
+    """An object whose calls run one after the other, and in one process: `_process`, or any where that is none."""
+
+    def __init__(self, process):
+        self._lock, self._is_called, self._process = threading.RLock(), False, process
+
+    def _check_process(self):
+        if self._process not in (None, _this_process()):
+            raise RuntimeError(f'this {type(self).__name__} belongs to another process')
+
+
 class _Secret(_Single):
     """Bytes that are overwritten when they are of no use any more."""
+    at, len = None, 0
 
     def __init__(self, size):
         # (at an address also where there are none)
-        self.room, self.len = bytearray(max(1, size)), size
+        self.room = bytearray(max(1, size))
         self.at = (ctypes.c_char * len(self.room)).from_buffer(self.room)
+        self.len = size
 
     def bytes(self, count):
         """The first of them, copied."""
@@ -237,12 +292,12 @@ class Question:
         self.input = last if self.kind == 'signature' else None
 
 
-class Link(_Single):
+class Link(_Sequence):
     """Both directions of a session, and what was agreed: its fields, numbered as include/rezdolin.h has them, but for the states of
     both directions, which it counts in and keeps to itself."""
 
     def __init__(self, session):
-        self._lock = threading.RLock()
+        super().__init__(_this_process())
         incoming, outgoing, *others = _fields(session.view())
         self._incoming, self._outgoing, self._seed = _Secret.of(incoming), _Secret.of(outgoing), os.urandom(32)
         self.fields = [b'', b'', *map(bytes, others)]
@@ -271,7 +326,7 @@ class Link(_Single):
         return out.bytes(answer.len), answer.used
 
 
-class _Endpoint(_Single):
+class _Endpoint(_Sequence):
     """What a client and a server have alike. `reading` is `deployed`, or `strict`: the peer's version line is then read by
     the letter of RFC 4253 section 4.2."""
     role = None
@@ -279,12 +334,12 @@ class _Endpoint(_Single):
     def __init__(self, kex=KEX, ciphers=CIPHERS, macs=MACS, softwareversion='rezdolin', strict=True, reading='deployed'):
         if reading not in READINGS:
             raise ValueError(f'reading is one of {", ".join(READINGS)}')
-        self._lock, self._record, self._session = threading.RLock(), _Secret(0), None
+        super().__init__(None)
+        self._record, self._session = _Secret(0), None
         self.end, self.fault, self.detail, self.left, self.question = OPEN, 0, 0, b'', None
         texts = [_text(it) for it in (softwareversion, '', kex, ciphers, ciphers, macs, macs)]
-        drawn = [os.urandom(size) for size in (16, 32, 32)]
         # (each structure keeps the bytes that were put in alive)
-        self._side = _Side(*[_lent(it) for it in texts + drawn], 1 if strict else 2, READINGS[reading])
+        self._side = _Side(*[_lent(it) for it in texts], strict=1 if strict else 2, reading=READINGS[reading])
 
     @property
     def is_open(self):
@@ -298,10 +353,23 @@ class _Endpoint(_Single):
 
     @_alone
     def begin(self):
-        """What it sends first. It is called once."""
-        if self._record.len or not self.is_open:
+        """What it sends first. It is called once. The endpoint then belongs to this process."""
+        if self._process:
             raise ValueError('it has begun')
-        return self._take(self._call('begin', None, (), 2), b'')
+        # (first, so that the draws are in no process to which it doesn't belong)
+        self._process = _this_process()
+        try:
+            self._draw(os.urandom)
+            return self._take(self._call('begin', None, (), 2), b'')
+        except BaseException:
+            self._draw(lambda size: b'')
+            self._process = None
+            raise
+
+    def _draw(self, source):
+        """Takes the draws from a source. All later calls have them."""
+        for name, size in DRAWN.items():
+            setattr(self._input.side, name, _lent(source(size)))
 
     @_alone
     def step(self, piece):
@@ -352,10 +420,16 @@ class _Endpoint(_Single):
 
     def _take(self, came, piece):
         """Goes on with what a call answered that was given this piece, and answers what is sent."""
-        answer, sent, self._record, told = came
-        self.end, self.fault, self.detail, self.left = answer.end, answer.fault, answer.detail, piece[answer.used:]
-        self.question = Question(told.bytes(told.len)) if answer.end == ASKS else None
+        answer, sent, record, told = came
+        question = Question(told.bytes(told.len)) if answer.end == ASKS else None
+        left = piece[answer.used:]
+        # A handler may raise between any two of these. Up to here nothing has changed. From here on there is no record until all the
+        # rest is there, so that no answer is taken for another question than the program sees.
+        self._record = _Secret(0)
+        self.question, self.left = question, left
+        self.end, self.fault, self.detail = answer.end, answer.fault, answer.detail
         self._session = told if answer.end == AUTHENTICATED else None
+        self._record = record
         return sent
 
     @_alone
@@ -366,8 +440,9 @@ class _Endpoint(_Single):
             raise ValueError('it isn\'t authenticated')
         if not self._session:
             raise ValueError('its link was taken')
-        session, self._session = self._session, None
-        return Link(session)
+        link = Link(self._session)
+        self._session = None
+        return link
 
 
 class Client(_Endpoint):
@@ -419,3 +494,13 @@ def read_identity(text):
     if answer.status != ANSWERED:
         raise Refused(answer.status, answer.fault)
     return out.bytes(answer.len)
+
+
+def is_signed(algorithm, key, data, signature):
+    """Whether a signature of this data, as an agent gives it, is right by a public key: by ssh-ed25519, rsa-sha2-256 or rsa-sha2-512.
+    ValueError where the library hasn't verified it: by another algorithm, of a key that it can't read, or without memory."""
+    given = [_text(algorithm), _octets(key), _octets(data), _octets(signature)]
+    answer = _library.rezdolin_is_signed(*[it for text in given for it in (text, len(text))])
+    if answer not in (YES, NO):
+        raise ValueError('the signature wasn\'t verified')
+    return answer == YES

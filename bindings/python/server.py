@@ -15,18 +15,34 @@ from client import Standard, bytes_of, carry, public_key_of
 from rezdolin import Key, Password, Server, Signed
 
 
+PASSWORD_LIMIT = 1024
+
+
+def is_by(proof, accepted):
+    """Whether a proof is the accepted one: first by its kind, since a password may be any bytes, those of a public key too. A password
+    that is too long isn't looked at."""
+    if type(proof) is not type(accepted) or isinstance(proof, Password) and len(proof.bytes) > PASSWORD_LIMIT:
+        return False
+    return hmac.compare_digest(proof.bytes, accepted.bytes)
+
+
+def is_accepted(question, user, accepted):
+    """Whether a question is about this user and this proof. Both are compared always, so the time doesn't tell who is a user."""
+    return hmac.compare_digest(question.user, user) & is_by(question.proof, accepted)
+
+
 def main(host_key, user, secret):
     if not user or not secret:
         sys.exit('server: USER or SECRET is empty')
+    accepted = Key(public_key_of(secret[1:])) if secret.startswith('@') else Password(secret.encode())
+    if isinstance(accepted, Password) and len(accepted.bytes) > PASSWORD_LIMIT:
+        sys.exit(f'server: SECRET has more than {PASSWORD_LIMIT} bytes')
     signal.alarm(60)
-    kind, accepted = (Key, public_key_of(secret[1:])) if secret.startswith('@') else (Password, secret.encode())
 
     def decide(question):
         if question.kind == 'signature':
             return Agent().sign(question)
-        # by the kind of the proof first: a password may be any bytes, those of a public key too
-        is_by = isinstance(question.proof, kind) and hmac.compare_digest(question.proof.bytes, accepted)
-        return is_by and question.user == user.encode()
+        return is_accepted(question, user.encode(), accepted)
 
     server = Server(Signed(public_key_of(host_key[1:])) if host_key.startswith('@') else bytes_of(host_key))
     carry(server, Standard, decide)

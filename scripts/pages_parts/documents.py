@@ -18,7 +18,7 @@ from statements import uncommented
 CRATES = ['sshwire', 'sshpacket', 'sshmsg', 'sshneg', 'sshcore', 'sshworld', 'sshpromises', 'sshkeccak', 'sshmlkem', 'sshsuite', 'sshlabsuites',
           'sshlab', 'sshidentity', 'rezdolin']
 # the programs whose code pages show
-SHOWN = ['sshauth', 'sshexample_client', 'sshexample_server', 'sshexample_waiting', 'sshexample_sniffer', 'sshexample_kexinit', 'sshexample_packet']
+SHOWN = ['sshauth', 'sshexample_client', 'sshexample_server', 'sshexample_waiting', 'sshexample_layers']
 PROGRAMS = {'rust': [f'crates/{crate}/src/*.rt' for crate in SHOWN]}
 # by page, and there by the word after a fence: the files that may have the block
 CODE = {

@@ -6,6 +6,7 @@ edits: each edit that the prover has to refuse, with its line `shows:`, which sa
 
 1. Each file of src/ and specs/ begins with a comment; `specs/Lib.antt` only lists its folder and needs none.
 2. Each edit has one line `shows:`.
+3. A crate has at most one edit in must-fail/, since `rt ci` proves the whole crate once more for it.
 
 Files and edits are counted.
 """
@@ -85,5 +86,6 @@ def judged(*_):
     files_there, edits_there = files(), edits()
     faults = [f'crates/{path} begins with no comment' for path, words in files_there if not words]
     faults += [f'crates/{path} has no line `shows:`, or two' for path, words in edits_there if not words]
+    faults += [f'crates/{crate}/must-fail has more than one edit' for crate in crates() if len(found(f'crates/{crate}/must-fail/*.edit')) > 1]
     told = f'{len(files_there)} files, {len(edits_there)} edits'
     return [told] + [f'FAULT {it}' for it in faults], len(files_there) + len(edits_there) - len(faults), len(faults)

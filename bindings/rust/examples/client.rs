@@ -9,12 +9,14 @@
 
 mod agent;
 mod deadline;
+mod person;
 
 use rezdolin::{Answer, Client, ClientParts, Draws, Proof, PublicKey, Question, Stands};
 use std::error::Error;
 use std::fs::File;
 use std::io::{Read, Write};
 use std::net::TcpStream;
+use std::process::ExitCode;
 use std::time::Duration;
 
 const LIMIT: Duration = Duration::from_secs(120);
@@ -26,27 +28,20 @@ fn draw<const N: usize>() -> std::io::Result<[u8; N]> {
     Ok(bytes)
 }
 
-/// Shows a person the key, and asks whether it is the server's: by digits that only the question tells, since a `y` may have
-/// been typed before it stood there.
-fn is_trusted(key: &[u8]) -> std::io::Result<bool> {
-    let digits: String = key.iter().map(|byte| format!("{byte:02x}")).collect();
-    eprint!("the server's key is {digits}: type its last 6 digits to trust it: ");
-    let mut line = String::new();
-    std::io::stdin().read_line(&mut line)?;
-    Ok(line.trim().len() == 6 && digits.ends_with(line.trim()))
-}
-
 /// Answers a question, by the host key that is trusted, and the agent.
 fn answer(client: &mut Client, trusted: Option<&[u8]>, out: &mut Vec<u8>) -> Result<(), Box<dyn Error>> {
     let Stands::Asks(question) = client.stands().clone() else { return Ok(()) };
     match question {
         Question::HostKey { key, .. } => {
-            let is_yes = trusted.map_or_else(|| is_trusted(&key), |trusted| Ok(key == trusted))?;
+            let is_yes = match trusted {
+                Some(trusted) => key == trusted,
+                None => person::is_trusted(&key, || Ok(draw::<1>()?[0]))?,
+            };
             client.answer(is_yes, out)?;
         }
         Question::Signature { algorithm, key, input } => {
             let path = std::env::var("SSH_AUTH_SOCK")?;
-            let signature = agent::sign(path.as_ref(), &algorithm, &key, &input)?;
+            let signature = agent::sign(path.as_ref(), agent::LIMIT, &algorithm, &key, &input)?;
             client.answer(signature.as_deref().map_or(Answer::NoSignature, Answer::Signature), out)?;
         }
         Question::User { .. } => unreachable!("a client isn't asked who is accepted"),
@@ -76,10 +71,11 @@ fn carry(
     }
 }
 
-fn main() -> Result<(), Box<dyn Error>> {
+/// What is printed of an authenticated user.
+fn run() -> Result<String, Box<dyn Error>> {
     let words: Vec<String> = std::env::args().skip(1).collect();
     let [address, user, secret, path] = &words[..] else {
-        return Err("client HOST:PORT USER SECRET KEY-FILE".into());
+        return Err("words: HOST:PORT USER SECRET KEY-FILE".into());
     };
     deadline::set(LIMIT, "client: it takes too long")?;
     let draws = Draws { cookie: draw()?, exchange_random: draw()?, padding_seed: draw()? };
@@ -97,6 +93,18 @@ fn main() -> Result<(), Box<dyn Error>> {
     carry(&mut TcpStream::connect(address)?, &mut client, trusted.as_deref(), out)?;
     let stands = client.stands().clone();
     let link = client.into_link(draw()?).ok_or_else(|| format!("{stands:?}"))?;
-    println!("{} at {}", link.user().escape_ascii(), link.peer_version().escape_ascii());
-    Ok(())
+    Ok(format!("{} at {}", link.user().escape_ascii(), link.peer_version().escape_ascii()))
+}
+
+fn main() -> ExitCode {
+    match run() {
+        Ok(told) => {
+            println!("{told}");
+            ExitCode::SUCCESS
+        }
+        Err(why) => {
+            eprintln!("client: {why}");
+            ExitCode::FAILURE
+        }
+    }
 }

@@ -245,6 +245,16 @@ unsafe extern "C" {
     fn rezdolin_public_key(private_key: *const u8, private_key_len: usize, out: *mut u8, out_len: usize)
     -> BytesAnswer;
     fn rezdolin_read_identity(text: *const u8, text_len: usize, out: *mut u8, out_len: usize) -> BytesAnswer;
+    fn rezdolin_is_signed(
+        algorithm: *const u8,
+        algorithm_len: usize,
+        key: *const u8,
+        key_len: usize,
+        input: *const u8,
+        input_len: usize,
+        signature: *const u8,
+        signature_len: usize,
+    ) -> u32;
     fn rezdolin_seal(
         state: *mut u8,
         state_len: usize,
@@ -398,6 +408,21 @@ pub fn public_key(private_key: &[u8], out: &mut [u8]) -> BytesAnswer {
 
 pub fn read_identity(text: &[u8], out: &mut [u8]) -> BytesAnswer {
     unsafe { rezdolin_read_identity(text.as_ptr(), text.len(), out.as_mut_ptr(), out.len()) }
+}
+
+pub fn is_signed(algorithm: &[u8], key: &[u8], input: &[u8], signature: &[u8]) -> u32 {
+    unsafe {
+        rezdolin_is_signed(
+            algorithm.as_ptr(),
+            algorithm.len(),
+            key.as_ptr(),
+            key.len(),
+            input.as_ptr(),
+            input.len(),
+            signature.as_ptr(),
+            signature.len(),
+        )
+    }
 }
 
 pub fn seal(state: &mut [u8], padding_seed: &[u8], payload: &[u8], out: &mut [u8]) -> BytesAnswer {

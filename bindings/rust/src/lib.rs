@@ -6,6 +6,32 @@
 //! [`answer`](Client::answer) goes on. Each keeps the record that the library writes at each call, and overwrites it when the next one
 //! is there, and when it is dropped. It is a value of some thousand bytes that is moved, sent to another thread and kept in a table as
 //! any other.
+//!
+//! **Draw random bytes for each connection, and fork with none at hand**: a process that forks goes on with a connection in one process
+//! only. No [`Draws`], `Client`, `Server` or [`Link`] can know of a fork. With random bytes that were used before, what a client once
+//! sent is accepted again; with a copy of a record, two packets are sealed with one key and one number.
+//!
+//! A call is `&mut`, so no other call of the same value can begin within it, as of a handler. This doesn't compile:
+//!
+//! ```compile_fail,E0501
+//! # use rezdolin::{Client, Refused};
+//! fn receive(client: &mut Client, piece: &[u8], out: &mut Vec<u8>) -> Result<(), Refused> {
+//!     let mut too_slow = || client.disconnect(11, "too slow", &mut Vec::new());
+//!     client.step(piece, out)?;
+//!     too_slow()
+//! }
+//! ```
+//!
+//! One call after the other does:
+//!
+//! ```
+//! # use rezdolin::{Client, Refused};
+//! fn receive(client: &mut Client, piece: &[u8], out: &mut Vec<u8>) -> Result<(), Refused> {
+//!     client.step(piece, out)?;
+//!     let mut too_slow = || client.disconnect(11, "too slow", &mut Vec::new());
+//!     too_slow()
+//! }
+//! ```
 #![deny(missing_docs)]
 
 mod door;
@@ -21,7 +47,8 @@ pub use question::{Answer, Question};
 use std::error::Error;
 use std::fmt;
 
-/// The bytes that one connection draws. They are random, and nobody can foresee them; no two connections have the same.
+/// The bytes that one connection draws. They are random, and nobody can foresee them; no two connections have the same, also not one of a
+/// process that forked after they were drawn and one of its child. Bytes that are all equal are [`Refused::Draws`].
 pub struct Draws {
     /// The cookie of the KEXINIT.
     pub cookie: [u8; 16],
@@ -232,8 +259,8 @@ pub enum Refused {
     /// The parts make no config; the number of the refusal, 1 for C1. With 13 a list names an algorithm that the library hasn't,
     /// with 14 a private key hasn't 32 bytes, or the blob of a [`PublicKey`] is none.
     Config(u32),
-    /// What was put in can't be read: an entry of a server has no user, or an empty password or key; a key is elsewhere, and the
-    /// endpoint doesn't ask; or a signature has no byte.
+    /// What was put in can't be read: an entry of a server has no user, an empty password or key, or a password of more than 1024
+    /// bytes; a key is elsewhere, and the endpoint doesn't ask; or a signature has no byte.
     Unreadable,
     /// Nothing is asked that this answers.
     Unasked,
@@ -241,6 +268,8 @@ pub enum Refused {
     Ended,
     /// A text has no private key that can be used; the number of why, as `include/rezdolin.h` has it.
     Identity(u32),
+    /// One of the [`Draws`] has bytes that are all equal: nobody has drawn it.
+    Draws,
 }
 
 /// Why a text has no private key that can be used, by its number.
@@ -271,6 +300,7 @@ impl fmt::Display for Refused {
                 let why = usize::try_from(*number).ok().and_then(|number| IDENTITY_FAULTS.get(number));
                 write!(f, "the text {}", why.unwrap_or(&IDENTITY_FAULTS[0]))
             }
+            Refused::Draws => f.write_str("a draw has bytes that are all equal"),
         }
     }
 }
@@ -314,6 +344,7 @@ fn made(input: Input<'_>, record: &[u8], call: Call<'_>) -> Result<Came, Refused
                 sizes = [sizes[0].max(answer.record_len), sizes[1].max(answer.sent_len), sizes[2].max(answer.told_len)]
             }
             11 => return Err(Refused::Unasked),
+            13 => return Err(Refused::Draws),
             status => unreachable!("by its own parts and record an endpoint is answered otherwise than by {status}"),
         }
     }
@@ -438,7 +469,7 @@ impl ClientParts {
     }
 }
 
-/// A client.
+/// A client. It can't know of a fork: where the process forks, go on with it in one process only.
 pub struct Client {
     parts: ClientParts,
     talk: Talk,
@@ -525,7 +556,8 @@ pub struct ServerParts {
     pub draws: Draws,
     /// Its host key.
     pub host_key: HostKey,
-    /// Who is accepted, and by what.
+    /// Who is accepted, and by what. Each request is compared with each entry in full, so its time tells neither who is a user nor where
+    /// a password differs. A request by a password of more than 1024 bytes is refused without a look.
     pub users: Vec<(String, Proof)>,
     /// The methods that all have to succeed, as a list of names; none where one success is enough.
     pub required: String,
@@ -569,7 +601,7 @@ impl ServerParts {
     }
 }
 
-/// A server.
+/// A server. It can't know of a fork: where the process forks, go on with it in one process only.
 pub struct Server {
     parts: ServerParts,
     talk: Talk,
@@ -639,6 +671,29 @@ impl Server {
 
 fn user_input<'a>(user: &'a str, proof: &'a Proof) -> UserInput<'a> {
     UserInput { user: Bytes::new(user.as_bytes()), proof: Bytes::new(proof.bytes()), method: proof.method() }
+}
+
+/// What [`is_signed`] finds.
+#[derive(Clone, Copy, Debug, PartialEq, Eq)]
+pub enum Verdict {
+    /// The signature is right.
+    Right,
+    /// It is wrong.
+    Wrong,
+    /// It wasn't looked at, so it may be wrong: the library verifies no such algorithm (it verifies `ssh-ed25519`, `rsa-sha2-512` and
+    /// `rsa-sha2-256`), an argument is too long, or memory ran out.
+    NotLookedAt,
+}
+
+/// Whether a signature of an input is right, by this algorithm and this public key. The signature is all that an agent gives
+/// ([`Answer::Signature`]). Hand in none by an RSA key that isn't [`Verdict::Right`]: a faulty one can give the private key away.
+#[must_use]
+pub fn is_signed(algorithm: &[u8], key: &[u8], input: &[u8], signature: &[u8]) -> Verdict {
+    match door::is_signed(algorithm, key, input, signature) {
+        1 => Verdict::Right,
+        2 => Verdict::Wrong,
+        _ => Verdict::NotLookedAt,
+    }
 }
 
 /// The public key of the 32 bytes of a private key of ssh-ed25519, as servers send it; none where memory ran out.

@@ -16,6 +16,8 @@ pub enum LinkFault {
     UsedUp,
     /// What came is no packet; the number of the fault, 1 for P1. End the connection.
     Packet(u32),
+    /// The padding seed has bytes that are all equal: nobody has drawn it.
+    Draws,
 }
 
 impl fmt::Display for LinkFault {
@@ -25,6 +27,7 @@ impl fmt::Display for LinkFault {
             LinkFault::Payload => f.write_str("a payload has 1 to 32768 bytes"),
             LinkFault::UsedUp => f.write_str("keys used up"),
             LinkFault::Packet(number) => write!(f, "no packet: P{number}"),
+            LinkFault::Draws => f.write_str("the padding seed has bytes that are all equal"),
         }
     }
 }
@@ -32,6 +35,9 @@ impl fmt::Display for LinkFault {
 impl Error for LinkFault {}
 
 /// Both directions of a session, and what was agreed. It has keys, and overwrites them when it is dropped.
+///
+/// **It can't know of a fork.** Where the process forks, go on with it in one process only: two that seal with one key and one packet
+/// number let who listens read and forge packets.
 pub struct Link {
     record: Secret,
     padding_seed: Secret,
@@ -134,6 +140,7 @@ fn fault_of(status: u32, fault: u32) -> Result<(), LinkFault> {
         5 => Err(LinkFault::Payload),
         6 => Err(LinkFault::UsedUp),
         7 => Err(LinkFault::Packet(fault)),
+        13 => Err(LinkFault::Draws),
         status => unreachable!("a link's own states and room are answered otherwise than by {status}"),
     }
 }

@@ -1,11 +1,17 @@
-//! By keys that a real ssh-agent alone has, where OpenSSH is there.
+//! By keys that a real ssh-agent alone has, where OpenSSH is there; and at agents that say what no agent should.
 
 #[path = "../examples/agent/mod.rs"]
 mod agent;
 
-use rezdolin::{Answer, Client, ClientParts, Draws, HostKey, Proof, PublicKey, Question, Server, ServerParts, Stands};
+use rezdolin::{
+    Answer, Client, ClientParts, Draws, HostKey, Proof, PublicKey, Question, Server, ServerParts, Stands, Verdict,
+    is_signed, public_key,
+};
+use std::io::{Read, Write};
+use std::os::unix::net::{UnixListener, UnixStream};
 use std::path::PathBuf;
 use std::process::{Child, Command, Stdio};
+use std::time::{Duration, Instant};
 
 /// An agent in a folder of its own, which both go with.
 struct Agent {
@@ -15,7 +21,9 @@ struct Agent {
 
 impl Agent {
     fn new() -> Option<Agent> {
-        let folder = std::env::temp_dir().join(format!("rezdolin-agent.{}", std::process::id()));
+        static COUNT: std::sync::atomic::AtomicU32 = std::sync::atomic::AtomicU32::new(0);
+        let number = COUNT.fetch_add(1, std::sync::atomic::Ordering::Relaxed);
+        let folder = std::env::temp_dir().join(format!("rezdolin-agent.{}.{number}", std::process::id()));
         std::fs::create_dir(&folder).unwrap();
         let mut command = Command::new("ssh-agent");
         let process = command.arg("-D").arg("-a").arg(folder.join("agent")).stdout(Stdio::null()).spawn().ok()?;
@@ -61,8 +69,13 @@ fn bytes_of(digits: &str) -> Vec<u8> {
     bytes
 }
 
+/// Bytes that differ.
+fn bytes<const N: usize>(seed: u8) -> [u8; N] {
+    std::array::from_fn(|at| seed + at as u8)
+}
+
 fn draws(seed: u8) -> Draws {
-    Draws { cookie: [seed; 16], exchange_random: [seed + 1; 32], padding_seed: [seed + 2; 32] }
+    Draws { cookie: bytes(seed), exchange_random: bytes(seed + 1), padding_seed: bytes(seed + 2) }
 }
 
 #[test]
@@ -73,7 +86,7 @@ fn an_agent_signs_for_a_client_and_for_a_server() {
     };
     let sign = |question: &Question| match question {
         Question::Signature { algorithm, key, input } => {
-            agent::sign(&agent.folder.join("agent"), algorithm, key, input).unwrap()
+            agent::sign(&agent.folder.join("agent"), agent::LIMIT, algorithm, key, input).unwrap()
         }
         _ => None,
     };
@@ -108,6 +121,130 @@ fn an_agent_signs_for_a_client_and_for_a_server() {
             }
         }
         assert_eq!((client.stands(), server.stands()), (&Stands::Authenticated, &Stands::Authenticated));
-        assert_eq!(server.into_link([4; 32]).unwrap().field(19), blob);
+        assert_eq!(server.into_link(bytes(4)).unwrap().field(19), blob);
+    }
+}
+
+fn string(bytes: &[u8]) -> Vec<u8> {
+    [&(bytes.len() as u32).to_be_bytes(), bytes].concat()
+}
+
+/// What comes of asking an agent that talks so, for a signature by this key: the signature, or the text of the error.
+fn asked(
+    algorithm: &str,
+    key: &[u8],
+    talk: impl FnOnce(&mut UnixStream) + Send + 'static,
+) -> Result<Option<Vec<u8>>, String> {
+    static COUNT: std::sync::atomic::AtomicU32 = std::sync::atomic::AtomicU32::new(0);
+    let number = COUNT.fetch_add(1, std::sync::atomic::Ordering::Relaxed);
+    let path = std::env::temp_dir().join(format!("rezdolin-hostile.{}.{number}", std::process::id()));
+    let listener = UnixListener::bind(&path).unwrap();
+    let agent = std::thread::spawn(move || {
+        let (mut end, _) = listener.accept().unwrap();
+        let mut size = [0; 4];
+        end.read_exact(&mut size).unwrap();
+        end.read_exact(&mut vec![0; u32::from_be_bytes(size) as usize]).unwrap();
+        talk(&mut end);
+    });
+    let begun = Instant::now();
+    let came = agent::sign(&path, Duration::from_secs(2), algorithm.as_bytes(), key, b"input");
+    assert!(begun.elapsed() < Duration::from_secs(20));
+    agent.join().unwrap();
+    std::fs::remove_file(&path).unwrap();
+    came.map_err(|why| why.to_string())
+}
+
+/// The same of an agent that says this.
+fn answered(algorithm: &str, key: &[u8], says: Vec<u8>) -> Result<Option<Vec<u8>>, String> {
+    asked(algorithm, key, move |end| {
+        let _ = end.write_all(&says); // (who doesn't read on may be gone)
+    })
+}
+
+/// The response with a signature.
+fn signed(signature: &[u8]) -> Vec<u8> {
+    string(&[&[14], &string(signature)[..]].concat())
+}
+
+#[test]
+fn an_agent_s_response_is_limited() {
+    let key = public_key(&[9; 32]).unwrap();
+    let fails = |says: Vec<u8>, why: &str| {
+        assert_eq!(answered("ssh-ed25519", &key, says), Err(format!("the agent's {why}")));
+    };
+    fails(vec![0xff; 4], "response has 4294967295 bytes");
+    fails([&[0xff; 4][..], &[14; 100_000]].concat(), "response has 4294967295 bytes");
+    fails(string(&[14; 16385]), "response has 16385 bytes");
+    fails(string(&[14; 16384]), "response can't be read");
+    fails(Vec::new(), "response is cut off");
+    fails(vec![0, 0], "response is cut off");
+    fails(vec![0; 4], "response has 0 bytes");
+    let whole = signed(&[0; 83]);
+    for len in 4..whole.len() {
+        fails(whole[..len].to_vec(), "response is cut off");
+    }
+    fails(string(&[6]), "response can't be read");
+    fails(string(&[14]), "response can't be read");
+    fails(string(&[14, 0, 0, 0, 1]), "response can't be read");
+    fails(string(&[&[14], &string(&[0; 83])[..], b"x"].concat()), "response can't be read");
+    fails(signed(&[0; 8193]), "signature is too long");
+    fails(signed(&[0; 8192]), "signature is wrong");
+    assert_eq!(answered("ssh-ed25519", &key, string(&[5])), Ok(None));
+}
+
+#[test]
+fn an_agent_s_time_is_limited() {
+    let key = public_key(&[9; 32]).unwrap();
+    let late = Err("the agent takes too long".to_string());
+    let waits = |end: &mut UnixStream| assert!(matches!(end.read(&mut [0]), Ok(0) | Err(_)));
+    assert_eq!(asked("ssh-ed25519", &key, waits), late);
+    let drips = |end: &mut UnixStream| {
+        end.write_all(&16000_u32.to_be_bytes()).unwrap();
+        while end.write_all(&[14]).is_ok() {
+            std::thread::sleep(Duration::from_millis(50));
+        }
+    };
+    assert_eq!(asked("ssh-ed25519", &key, drips), late);
+}
+
+#[test]
+fn signatures_are_verified_before_they_are_given() {
+    let rsa = [string(b"ssh-rsa"), string(&[1, 0, 1]), string(&[&[0], &[0xc5; 256][..]].concat())].concat();
+    let of = |algorithm: &str| [string(algorithm.as_bytes()), string(&[7; 256])].concat();
+    let wrong = Err("the agent's signature is wrong".to_string());
+    let unseen = Err("the agent's signature can't be verified".to_string());
+    for algorithm in ["rsa-sha2-512", "rsa-sha2-256"] {
+        assert_eq!(answered(algorithm, &rsa, signed(&of(algorithm))), wrong);
+        assert_eq!(answered(algorithm, &rsa, signed(&of("ssh-rsa"))), wrong);
+        assert_eq!(answered(algorithm, &rsa, signed(b"")), wrong);
+    }
+    assert_eq!(answered("ssh-ed25519", &public_key(&[9; 32]).unwrap(), signed(&of("ssh-ed25519"))), wrong);
+    for algorithm in ["ssh-rsa", "ecdsa-sha2-nistp256", "sk-ssh-ed25519@openssh.com", ""] {
+        assert_eq!(answered(algorithm, &rsa, signed(&of(algorithm))), unseen);
+    }
+    for algorithm in ["ecdsa-sha2-nistp256", "sk-ssh-ed25519@openssh.com"] {
+        let key = [string(algorithm.as_bytes()), string(b"nistp256"), string(&[4; 65])].concat();
+        assert_eq!(answered(algorithm, &key, signed(&of(algorithm))), Ok(Some(of(algorithm))));
+    }
+}
+
+#[test]
+fn an_agent_s_signature_by_rsa_is_verified() {
+    let Some(real) = Agent::new() else {
+        println!("skipped: without ssh-agent");
+        return;
+    };
+    let key = real.key("rsa");
+    for algorithm in ["rsa-sha2-512", "rsa-sha2-256"] {
+        let path = real.folder.join("agent");
+        let right = agent::sign(&path, agent::LIMIT, algorithm.as_bytes(), &key, b"input").unwrap().unwrap();
+        assert_eq!(is_signed(algorithm.as_bytes(), &key, b"input", &right), Verdict::Right);
+        assert_eq!(answered(algorithm, &key, signed(&right)), Ok(Some(right.clone())));
+        for at in [0, 8, right.len() / 2, right.len() - 1] {
+            let mut spoiled = right.clone();
+            spoiled[at] ^= 1;
+            assert_eq!(is_signed(algorithm.as_bytes(), &key, b"input", &spoiled), Verdict::Wrong);
+            assert_eq!(answered(algorithm, &key, signed(&spoiled)), Err("the agent's signature is wrong".into()));
+        }
     }
 }

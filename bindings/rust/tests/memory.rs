@@ -2,15 +2,20 @@
 
 use rezdolin::{
     Answer, Client, ClientParts, Draws, HostKey, LinkFault, PeerReading, Proof, PublicKey, Question, Refused, Server,
-    ServerParts, Stands, public_key, read_identity,
+    ServerParts, Stands, Verdict, is_signed, public_key, read_identity,
 };
 
 const HOST: [u8; 32] = [9; 32];
 const USER: [u8; 32] = [8; 32];
 const NO_KEYS: Stands = Stands::Failed { fault: 14, detail: 0 };
 
+/// Bytes that differ.
+fn bytes<const N: usize>(seed: u8) -> [u8; N] {
+    std::array::from_fn(|at| seed + at as u8)
+}
+
 fn draws(seed: u8) -> Draws {
-    Draws { cookie: [seed; 16], exchange_random: [seed + 1; 32], padding_seed: [seed + 2; 32] }
+    Draws { cookie: bytes(seed), exchange_random: bytes(seed + 1), padding_seed: bytes(seed + 2) }
 }
 
 fn client_parts(plan: Vec<Proof>) -> ClientParts {
@@ -75,7 +80,7 @@ fn authenticates_by_a_key_and_by_a_password() {
 #[test]
 fn a_session_goes_on() {
     let (client, server) = meet(client_parts(vec![Proof::Key(USER.to_vec())]), server_parts(), 1000);
-    let (mut ours, mut theirs) = (client.into_link([3; 32]).unwrap(), server.into_link([4; 32]).unwrap());
+    let (mut ours, mut theirs) = (client.into_link(bytes(3)).unwrap(), server.into_link(bytes(4)).unwrap());
     assert_eq!(ours.session_identifier(), theirs.session_identifier());
     assert_eq!((ours.user(), ours.peer_version(), ours.is_strict()), (&b"al"[..], &b"SSH-2.0-rezdolin"[..], true));
     assert_eq!(ours.host_key(), public_key(&HOST).unwrap());
@@ -96,7 +101,7 @@ fn refusals_are_told() {
     let wrong = vec![Proof::Password(b"wrong".to_vec())];
     let (client, server) = meet(client_parts(wrong), server_parts(), 1000);
     assert_eq!((client.stands(), server.stands()), (&NO_KEYS, &Stands::Closed(14)));
-    assert!(client.into_link([3; 32]).is_none());
+    assert!(client.into_link(bytes(3)).is_none());
     let parts = ClientParts::new(draws(1), "al", vec![Proof::None], Vec::new());
     let (client, _) = meet(parts, server_parts(), 1000);
     assert_eq!(client.stands(), &Stands::Failed { fault: 10, detail: 0 });
@@ -123,6 +128,63 @@ fn parts_are_refused() {
     assert_eq!(refusal(parts), Some(Refused::Config(13)));
     for len in [0, 31, 33, 64] {
         assert_eq!(refusal(client_parts(vec![Proof::Key(vec![9; len])])), Some(Refused::Config(14)));
+    }
+}
+
+#[test]
+fn draws_that_nobody_has_made_are_refused() {
+    for byte in [0, 7, 0xff] {
+        for which in 0..3 {
+            let spoiled = || {
+                let mut draws = draws(1);
+                match which {
+                    0 => draws.cookie = [byte; 16],
+                    1 => draws.exchange_random = [byte; 32],
+                    _ => draws.padding_seed = [byte; 32],
+                }
+                draws
+            };
+            let key = vec![public_key(&HOST).unwrap()];
+            assert_eq!(refusal(ClientParts::new(spoiled(), "al", vec![password()], key)), Some(Refused::Draws));
+            assert_eq!(refusal(ClientParts::asking(spoiled(), "al", vec![password()])), Some(Refused::Draws));
+            let users = vec![("al".into(), password())];
+            assert_eq!(server_refusal(ServerParts::new(spoiled(), HostKey::Here(HOST), users)), Some(Refused::Draws));
+        }
+        let (client, _) = meet(client_parts(vec![password()]), server_parts(), 1000);
+        let (mut link, mut out) = (client.into_link([byte; 32]).unwrap(), Vec::new());
+        assert_eq!((link.seal(b"x", &mut out), out.len()), (Err(LinkFault::Draws), 0));
+    }
+    let mut other = draws(1);
+    (other.cookie, other.exchange_random, other.padding_seed) = ([0; 16], [0; 32], [0; 32]);
+    (other.cookie[15], other.exchange_random[0], other.padding_seed[31]) = (1, 1, 1);
+    assert_eq!(refusal(ClientParts::asking(other, "al", vec![])), None);
+}
+
+#[test]
+fn signatures_are_verified() {
+    // RFC 8032 section 7.1, TEST 2
+    let hex = |digits: &str| -> Vec<u8> {
+        (0..digits.len()).step_by(2).map(|at| u8::from_str_radix(&digits[at..at + 2], 16).unwrap()).collect()
+    };
+    let key: [u8; 32] = hex("4ccd089b28ff96da9db6c346ec114e0f5b8a319f35aba624da8cf6ed4fb8a6fb").try_into().unwrap();
+    let own = hex(concat!(
+        "92a009a9f0d4cab8720e820b5f642540a2b27b5416503f8fb3762223ebdb69da",
+        "085ac1e43e15996e458f3613d0f11d8c387b2eaeb4302aeeb00d291612bb0c00"
+    ));
+    let (blob, front) = (public_key(&key).unwrap(), &b"\0\0\0\x0bssh-ed25519\0\0\0\x40"[..]);
+    let signature = [front, &own].concat();
+    assert_eq!(is_signed(b"ssh-ed25519", &blob, b"\x72", &signature), Verdict::Right);
+    assert_eq!(is_signed(b"ssh-ed25519", &blob, b"\x73", &signature), Verdict::Wrong);
+    assert_eq!(is_signed(b"ssh-ed25519", &public_key(&HOST).unwrap(), b"\x72", &signature), Verdict::Wrong);
+    for at in 0..signature.len() {
+        let mut spoiled = signature.clone();
+        spoiled[at] ^= 1;
+        assert_eq!(is_signed(b"ssh-ed25519", &blob, b"\x72", &spoiled), Verdict::Wrong, "{at}");
+    }
+    assert_eq!(is_signed(b"ssh-ed25519", &blob, b"\x72", b""), Verdict::Wrong);
+    for name in [&b"ecdsa-sha2-nistp256"[..], b"sk-ssh-ed25519@openssh.com", b"ssh-rsa", b"", b"\xff", b"ssh-ed25519,"]
+    {
+        assert_eq!(is_signed(name, &blob, b"\x72", &signature), Verdict::NotLookedAt);
     }
 }
 
@@ -194,6 +256,7 @@ fn entries_that_let_anybody_in_are_refused() {
     refuses("al", Proof::Key(Vec::new()));
     refuses("", password());
     refuses("", Proof::None);
+    refuses("al", Proof::Password(vec![b'x'; 1025]));
     let server = ServerParts::new(draws(5), HostKey::Here(HOST), vec![("al".into(), Proof::None)]);
     assert_authenticated(&meet(client_parts(vec![Proof::None]), server, 1000));
 }
@@ -265,6 +328,21 @@ fn waits_for_its_answer_in_another_thread() {
     .join()
     .unwrap();
     assert_authenticated(&(client, server));
+}
+
+#[test]
+fn long_passwords() {
+    for (len, is_accepted) in [(1024, true), (1025, false)] {
+        let host_key = HostKey::Here(HOST);
+        let users = vec![("al".into(), Proof::Password(vec![b'x'; 1024]))];
+        let plan = vec![Proof::Password(vec![b'x'; len])];
+        if !is_accepted {
+            // (no client of the library sends one)
+            assert_eq!(refusal(client_parts(plan)), Some(Refused::Config(6)));
+            continue;
+        }
+        assert_authenticated(&meet(client_parts(plan), ServerParts::new(draws(5), host_key, users), 1000));
+    }
 }
 
 #[test]

@@ -16,6 +16,7 @@ use Rattle.sshsuite.specs.Deployed.{deployed}
 use Rattle.sshsuite.specs.DeployedLaws.{next_length}
 use Rattle.rezdolin.specs.declared.directions.Place.{Place}
 use Rattle.rezdolin.specs.Directions.{IsOpened, IsPut, IsSealed, IsStateBefore, place_bytes, vector_place}
+use Rattle.rezdolin.specs.Drawn.{IsUniform}
 use Rattle.rezdolin.specs.Records.{state_bytes}
 
 -- a place that was read in four numbers
@@ -126,12 +127,12 @@ same_keys keys next found is other = let both : Some next ≡ Some keys = sym is
 pub sealed_by : (place : Place) (keys next : KeysData) (seed payload packet before after room new : List ℕ) (n : ℕ)
     → before ≡ state_at place keys → place.count < LINK_LIMIT → place.bytes < LINK_BYTES_LIMIT → next ≡ advanced deployed keys (length packet)
     → after ≡ state_bytes ((place.number + 1) % 2 ^ 32) (place.count + 1) (place.bytes + n) next
-    → 0 < length payload → length payload ≤ PAYLOAD_LIMIT
+    → (IsUniform seed → ⊥) → 0 < length payload → length payload ≤ PAYLOAD_LIMIT
     → packet ≡ written_sealed deployed keys seed place.number payload → IsPut packet room n new
     → IsWritten (deployed.counts_length keys.cipher keys.mac) (deployed.block keys.cipher) (deployed.tag_len keys.cipher keys.mac) payload
     (written deployed (deployed.counts_length keys.cipher keys.mac) (deployed.block keys.cipher) seed place.number payload)
     → IsSealed deployed before seed payload room after n new
-sealed_by place keys next seed payload packet before after room new n is left bytes_left next_is now some short packet_is put least = record {
+sealed_by place keys next seed payload packet before after room new n is left bytes_left next_is now drawn some short packet_is put least = record {
   moves = record {
     number = place.number;
     count = place.count;
@@ -142,6 +143,7 @@ sealed_by place keys next seed payload packet before after room new n is left by
     bytes_left = bytes_left;
     after_is = now ∙ ap (state_bytes ((place.number + 1) % 2 ^ 32) (place.count + 1) (place.bytes + n)) (next_is ∙ ap (advanced deployed keys) (sym put.1));
   };
+  drawn = drawn;
   some = some;
   short = short;
   put = subst (λ (xs : List ℕ). IsPut xs room n new) packet_is put;

@@ -1,10 +1,11 @@
 -- The frame round a record, cut into its parts.
 
-use Rattle.std.proofs.Common.{◌≡◌, ◌≢◌, ◌∙◌, ◌<◌, ℕ, Bool, true, not, List, [], ◌∷◌, ◌++◌, ap, arith, drop, length, sym, take}
+use Rattle.std.proofs.Common.{◌≡◌, ◌≢◌, ◌∙◌, ◌<◌, ℕ, Bool, false, List, [], ◌∷◌, ◌++◌, ap, arith, drop, length, sym, take}
 use Rattle.std.proofs.lemmas.Bool.{true≢false}
 use Rattle.std.proofs.lemmas.List.{append_cancel_left, length-append, take-append-drop}
 use Rattle.std.proofs.Math.Seq.{take-append_seam}
-use Rattle.std.specs.Bool.{Decides}
+use Rattle.std.proofs.lemmas.Slice.Eq.{bytes_eq-Decides}
+use Rattle.std.specs.Str.{bytes_eq}
 use Rattle.rezdolin.specs.Frames.{IsFrameOf, framed}
 
 heads : (a b c d : List ℕ) → length a ≡ length b → a ++ c ≡ b ++ d → a ≡ b
@@ -41,5 +42,5 @@ pub frame_here : (bytes rest found text : List ℕ) → bytes ≡ (0 ∷ 0 ∷ 0
 frame_here bytes rest found text p f t = p ∙ ap (λ (l : List ℕ). (0 ∷ 0 ∷ 0 ∷ 1 ∷ []) ++ l) (cut_here 32 rest found text f t)
 
 -- what was seen to differ
-pub differs : (a b c : List ℕ) (t r : Bool) → Decides t (a ≡ b) → r ≡ true → r ≡ not t → b ≡ c → a ≡ c → ⊥
-differs a b c t r d there is same e = true≢false (sym there ∙ (is ∙ ap not (d.1 (e ∙ sym same))))
+pub differs : (a b : List ℕ) (r : Bool) → r ≡ bytes_eq a b → r ≡ false → a ≡ b → ⊥
+differs a b r is unlike e = true≢false (sym ((bytes_eq-Decides a b).1 e) ∙ (sym is ∙ unlike))

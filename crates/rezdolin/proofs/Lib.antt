@@ -1,3 +1,4 @@
+pub mod DrawnLemmas
 pub mod FrameLemmas
 pub mod StepLemmas
 pub mod ChainLemmas

@@ -40,7 +40,7 @@ use Rattle.rezdolin.specs.Answers.{end_numbers, fault_numbers, no_step}
 use Rattle.sshcore.proofs.AskedNothing.{asked_none}
 use Rattle.rezdolin.specs.CarriedOn.{CarriesOn}
 use Rattle.sshcore.specs.ConfigRules.{IsClient, IsServer}
-use Rattle.rezdolin.specs.Endpoints.{AreAllowed, AreListed, AreRead, AreTaken, IsConfigOf, IsNone, IsRecordAfter, Resumes, Trusts, config_in, digest_of, means, role_in, setup_of}
+use Rattle.rezdolin.specs.Endpoints.{AreAllowed, AreListed, AreRead, AreTaken, HasDrawn, IsConfigOf, IsNone, IsRecordAfter, Resumes, Trusts, config_in, digest_of, means, role_in, setup_of}
 use Rattle.rezdolin.specs.declared.frame.FrameFault.{FrameFault}
 use Rattle.rezdolin.specs.declared.frame.FrameFault.TheVariants as frame
 use Rattle.rezdolin.specs.Frames.{IsFrameFault, IsFrameOf, framed}
@@ -138,11 +138,11 @@ pub open_quiet : (asked : Option QuestionData) (told : EndNumbers) → told ≡ 
 open_quiet asked told is none = no_question Open told (is ∙ ap (λ (o : Option QuestionData). told_end Open o) none)
 
 -- parts of which a config was made
-pub taken_so : (parts : Parts) (made : Config) → AreRead parts → IsConfigOf parts made → AreTaken parts
-taken_so (parts.Client client) (config.Client made) read is = (read, subst IsClient is.0 is.1, is.2)
-taken_so (parts.Client client) (config.Server made) read is = absurd is
-taken_so (parts.Server server) (config.Client made) read is = absurd is
-taken_so (parts.Server server) (config.Server made) read is = (read, subst IsServer is.0 is.1, is.2)
+pub taken_so : (parts : Parts) (made : Config) → AreRead parts → HasDrawn parts → IsConfigOf parts made → AreTaken parts
+taken_so (parts.Client client) (config.Client made) read drawn is = (read, drawn, subst IsClient is.0 is.1, is.2)
+taken_so (parts.Client client) (config.Server made) read drawn is = absurd is
+taken_so (parts.Server server) (config.Client made) read drawn is = absurd is
+taken_so (parts.Server server) (config.Server made) read drawn is = (read, drawn, subst IsServer is.0 is.1, is.2)
 
 module _ (parts : Parts) (made : Config) (is : IsConfigOf parts made) where
   -- an endpoint with this config has the setup of the parts
@@ -173,13 +173,13 @@ module _ (parts : Parts) (made : Config) (is : IsConfigOf parts made) where
       (subst (λ (setup : Setup). StandsNow setup digest h s end bytes told) (setup_is d new role config) stands)
 
   -- a call that begins
-  pub begins_so : AreRead parts → (e : AskingData DeployedSuite) (suite : DeployedSuite) (digest before sent : List ℕ) (end : EndNumbers) (bytes told : List ℕ) → digest ≡ digest_of parts
+  pub begins_so : AreRead parts → HasDrawn parts → (e : AskingData DeployedSuite) (suite : DeployedSuite) (digest before sent : List ℕ) (end : EndNumbers) (bytes told : List ℕ) → digest ≡ digest_of parts
       → before ≡ [] → AskingMade means (role_in made) (config_in made) suite e before sent
       → ((d : DecisionsData) (h s : List ℕ) → AskingAfter means d e h s → by_input (asking_end e) ≡ true → StandsNow (asking_setup means d e) digest h s end bytes told)
       → (asked_by e ≡ None → end.end ≢ END_ASKS)
       → ComesTo parts Starts [] sent end bytes told
-  begins_so read e suite digest before sent end bytes told digest_is none m stands quiet = (
-    taken_so parts made read is,
+  begins_so read drawn e suite digest before sent end bytes told digest_is none m stands quiet = (
+    taken_so parts made read drawn is,
     λ d allowed h s starts.
         let sent_is : sent ≡ m.added = m.appended ∙ ap (λ (x : List ℕ). x ++ m.added) none in
         let here = now_so d e digest [] m.added end bytes told digest_is m.is_role m.is_config (stands d [] m.added (m.begins d) (ap by_input m.is_open)) in
@@ -190,15 +190,15 @@ module _ (parts : Parts) (made : Config) (is : IsConfigOf parts made) where
   )
 
   -- a call that goes on from a record
-  pub steps_so : AreRead parts → (trust : Option Trust) (bytes text digest : List ℕ) (e new : AskingData DeployedSuite) (given before sent : List ℕ) (end : EndNumbers) (written told : List ℕ) → digest ≡ digest_of parts
+  pub steps_so : AreRead parts → HasDrawn parts → (trust : Option Trust) (bytes text digest : List ℕ) (e new : AskingData DeployedSuite) (given before sent : List ℕ) (end : EndNumbers) (written told : List ℕ) → digest ≡ digest_of parts
       → bytes ≡ framed digest text → Resumes (role_in made) (config_in made) text e
       → ((d : DecisionsData) → AreAllowed parts d → Trusts trust d) → (AreListed parts → IsSome trust)
       → before ≡ [] → ((d : DecisionsData) → Trusts trust d → CarriesOn means d e new given before sent) → (IsSome trust → asked_by new ≡ None)
       → ((d : DecisionsData) (h s : List ℕ) → AskingAfter means d new h s → by_input (asking_end new) ≡ true → StandsNow (asking_setup means d new) digest h s end written told)
       → (asked_by new ≡ None → end.end ≢ END_ASKS)
       → ComesTo parts (StandsHere (digest_of parts) bytes) given sent end written told
-  steps_so read trust bytes text digest e new given before sent end written told digest_is framed_is resumes trusts lists none carries decides stands quiet = (
-    taken_so parts made read is,
+  steps_so read drawn trust bytes text digest e new given before sent end written told digest_is framed_is resumes trusts lists none carries decides stands quiet = (
+    taken_so parts made read drawn is,
     λ d allowed h s stood.
         let r = of_record bytes text digest h s d stood.0 digest_is framed_is stood.1 in
         let on = carries d (trusts d allowed) in
@@ -211,14 +211,14 @@ module _ (parts : Parts) (made : Config) (is : IsConfigOf parts made) where
   )
 
   -- a call that goes on with an answer
-  pub answers_so : AreRead parts → (a : AnswerData) (bytes text digest : List ℕ) (e new : AskingData DeployedSuite) (before sent : List ℕ) (end : EndNumbers) (written told : List ℕ) → digest ≡ digest_of parts
+  pub answers_so : AreRead parts → HasDrawn parts → (a : AnswerData) (bytes text digest : List ℕ) (e new : AskingData DeployedSuite) (before sent : List ℕ) (end : EndNumbers) (written told : List ℕ) → digest ≡ digest_of parts
       → bytes ≡ framed digest text → Resumes (role_in made) (config_in made) text e → is_for a (asked_by e) ≡ true
       → before ≡ [] → Answered means (taken_by (asked_by e) a) e new before sent → (by_input (asking_end new) ≡ false → asking_end e ≡ asking_end new)
       → ((d : DecisionsData) (h s : List ℕ) → AskingAfter means d new h s → by_input (asking_end new) ≡ true → StandsNow (asking_setup means d new) digest h s end written told)
       → (asked_by new ≡ None → end.end ≢ END_ASKS)
       → ComesTo parts (IsAnswered a (digest_of parts) bytes) [] sent end written told
-  answers_so read a bytes text digest e new before sent end written told digest_is framed_is resumes is_for_it none answered owned stands quiet = (
-    taken_so parts made read is,
+  answers_so read drawn a bytes text digest e new before sent end written told digest_is framed_is resumes is_for_it none answered owned stands quiet = (
+    taken_so parts made read drawn is,
     λ d allowed h s stood.
         let r = of_record bytes text digest h s d (Some stood.0) digest_is framed_is stood.1 in
         let asks : asked_by e ≡ Some stood.0 = resumes.asks d h s r.0 ∙ r.1 in
@@ -510,6 +510,7 @@ why_reply parts made is bytes text digest a no_record.Unreadable digest_is frame
 -- the same reasons where an answer can be read, and where a description can
 pub why_answer : (parts : Parts) (bytes signature : List ℕ) (number : ℕ) (a : AnswerData) (f : NoStep) → IsReply number signature a → WhyNoReply parts bytes a f → WhyNoAnswer parts bytes number signature f
 why_answer parts bytes signature number a no.Unreadable is why = λ read other _. why read
+why_answer parts bytes signature number a no.Draws is why = (a, is, why)
 why_answer parts bytes signature number a (no.Config fault) is why = (a, is, why)
 why_answer parts bytes signature number a no.Record is why = (a, is, why)
 why_answer parts bytes signature number a no.Parts is why = (a, is, why)
@@ -518,6 +519,7 @@ why_answer parts bytes signature number a no.Memory is why = (a, is, why)
 
 pub why_leave : (parts : Parts) (bytes description : List ℕ) (f : NoStep) → WhyNotFrom parts bytes f → WhyNoLeave parts bytes description f
 why_leave parts bytes description no.Unreadable why = λ read _. why read
+why_leave parts bytes description no.Draws why = why
 why_leave parts bytes description (no.Config fault) why = why
 why_leave parts bytes description no.Record why = why
 why_leave parts bytes description no.Parts why = why

@@ -10,7 +10,7 @@ use Rattle.sshcore.specs.ConfigRules.{rule_number}
 use Rattle.sshcore.specs.EndData.{Authenticated, Closed, Disconnected, EndData, Failed, Open}
 use Rattle.rezdolin.specs.declared.answers.EndNumbers.{EndNumbers}
 use Rattle.rezdolin.specs.declared.answers.StepAnswer.{StepAnswer}
-use Rattle.rezdolin.specs.declared.answers.TheConstants.{END_AUTHENTICATED, END_CLOSED, END_DISCONNECTED, END_FAILED, END_OPEN, STATUS_ANSWERED, STATUS_CONFIG, STATUS_MEMORY, STATUS_PARTS, STATUS_RECORD, STATUS_ROOM, STATUS_UNASKED, STATUS_UNREADABLE}
+use Rattle.rezdolin.specs.declared.answers.TheConstants.{END_AUTHENTICATED, END_CLOSED, END_DISCONNECTED, END_FAILED, END_OPEN, STATUS_ANSWERED, STATUS_CONFIG, STATUS_DRAWS, STATUS_MEMORY, STATUS_PARTS, STATUS_RECORD, STATUS_ROOM, STATUS_UNASKED, STATUS_UNREADABLE}
 use Rattle.rezdolin.specs.declared.parts.NoConfig.{NoConfig}
 use Rattle.rezdolin.specs.declared.parts.NoConfig.TheVariants as no
 use Rattle.rezdolin.specs.declared.steps.Came.{Came}
@@ -82,6 +82,7 @@ no_config (no.Unfit number) = no_endpoint STATUS_CONFIG number
 -- the answer where a call doesn't go on
 abbrev pub no_step : NoStep → StepAnswer
 no_step step.Unreadable = no_endpoint STATUS_UNREADABLE 0
+no_step step.Draws = no_endpoint STATUS_DRAWS 0
 no_step (step.Config f) = no_config f
 no_step step.Record = no_endpoint STATUS_RECORD 0
 no_step step.Parts = no_endpoint STATUS_PARTS 0

@@ -11,6 +11,7 @@ use Rattle.sshpacket.specs.Written.{IsWritten, written, written_sealed}
 use Rattle.sshcore.specs.declared.link.TheConstants.{LINK_BYTES_LIMIT, LINK_LIMIT}
 use Rattle.rezdolin.specs.declared.directions.Place.{Place}
 use Rattle.rezdolin.specs.declared.directions.StateParts.{StateParts}
+use Rattle.rezdolin.specs.Drawn.{IsUniform}
 use Rattle.rezdolin.specs.Records.{state_bytes}
 
 -- the keys that stand in a state
@@ -51,6 +52,7 @@ IsPut bytes room n new = (length bytes ≤ length room) × (n ≡ length bytes) 
 -- more. Before it had sealed fewer packets and bytes than a link's limits.
 pub record IsSealed (m : SuiteData) (state seed payload room new_state : List ℕ) (n : ℕ) (new : List ℕ) : Type 0 where
   pub moves : Moves m n state new_state
+  pub drawn : IsUniform seed → ⊥
   pub some : 0 < length payload
   pub short : length payload ≤ PAYLOAD_LIMIT
   pub put : IsPut (written_sealed m moves.keys seed moves.number payload) room n new

@@ -20,6 +20,7 @@ use Rattle.rezdolin.specs.declared.parts_of.Config.TheVariants as config
 use Rattle.rezdolin.specs.declared.parts_of.Parts.{Parts}
 use Rattle.rezdolin.specs.declared.parts_of.Parts.TheVariants as parts
 use Rattle.rezdolin.specs.declared.trust.Trust.{Trust}
+use Rattle.rezdolin.specs.Drawn.{AreDrawn}
 use Rattle.rezdolin.specs.Inputs.{AreClientTexts, AreServerTexts, client_of, server_of}
 use Rattle.rezdolin.specs.PartsText.{client_text, server_text}
 use Rattle.rezdolin.specs.Readable.{IsClientRead, IsServerRead}
@@ -34,6 +35,11 @@ means suite = deployed
 abbrev pub AreRead : Parts → Type 0
 AreRead (parts.Client client) = IsClientRead client.now
 AreRead (parts.Server server) = IsServerRead server.now
+
+-- no draw of these parts has bytes that are all equal
+abbrev pub HasDrawn : Parts → Type 0
+HasDrawn (parts.Client client) = AreDrawn client.now.side
+HasDrawn (parts.Server server) = AreDrawn server.now.side
 
 -- the texts of these parts are UTF-8, and their numbers of methods are read
 abbrev pub AreTexts : Parts → Type 0
@@ -82,10 +88,11 @@ abbrev pub AreRefused : Parts → ℕ → Type 0
 AreRefused (parts.Client client) number = IsRefusedClient client.now number
 AreRefused (parts.Server server) number = IsRefusedServer server.now number
 
--- an endpoint is made of parts alone whose numbers and entries are read, that break no rule, and that the suite fits
+-- an endpoint is made of parts alone whose numbers and entries are read, whose draws may be random, that break no rule, and that the suite
+-- fits
 abbrev pub AreTaken : Parts → Type 0
-AreTaken (parts.Client client) = IsClientRead client.now × IsClient (client_of client.now) × IsFitClient client.now
-AreTaken (parts.Server server) = IsServerRead server.now × IsServer (server_of server.now) × IsFitServer server.now
+AreTaken (parts.Client client) = IsClientRead client.now × AreDrawn client.now.side × IsClient (client_of client.now) × IsFitClient client.now
+AreTaken (parts.Server server) = IsServerRead server.now × AreDrawn server.now.side × IsServer (server_of server.now) × IsFitServer server.now
 
 -- the role of a config that was made
 abbrev pub role_in : Config → Side

@@ -1,7 +1,9 @@
 pub mod Inputs
 pub mod Readable
+pub mod Drawn
 pub mod Refusals
 pub mod Trust
+pub mod Verdicts
 pub mod Answers
 pub mod Records
 pub mod Directions

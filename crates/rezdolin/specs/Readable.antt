@@ -1,7 +1,8 @@
 -- The numbers and entries of a program that can be read.
 
-use Rattle.std.specs.Prelude.{◌≡◌, ◌≢◌, ◌⊎◌, ℕ, ◌≤◌, ◌==◌, Bool, true, []}
+use Rattle.std.specs.Prelude.{◌≡◌, ◌≢◌, ◌⊎◌, ℕ, ◌≤◌, ◌==◌, Bool, true, [], length}
 use Rattle.std.specs.List.{AllByRecursion}
+use Rattle.sshcore.specs.declared.config_parts.TheConstants.{PASSWORD_LIMIT}
 use Rattle.rezdolin.specs.declared.inputs.AttemptInput.{AttemptInput}
 use Rattle.rezdolin.specs.declared.inputs.ClientInput.{ClientInput}
 use Rattle.rezdolin.specs.declared.inputs.HostKeyInput.{HostKeyInput}
@@ -26,12 +27,14 @@ pub record IsAttempt (asks : Bool) (attempt : AttemptInput) : Type 0 where
   pub method : IsMethod attempt.method ⊎ ((attempt.method ≡ METHOD_SIGNED) × (asks ≡ true))
   pub ask : attempt.ask ≤ 1
 
--- An entry has a user, and what its method wants: no bytes where the user is accepted without a proof, and else some.
+-- An entry has a user, and what its method wants: no bytes where the user is accepted without a proof, and else some. A password has no
+-- more bytes than are looked at.
 pub record IsEntry (entry : UserInput) : Type 0 where
   pub user : entry.user.now ≢ []
   pub method : IsMethod entry.method
   pub unproved : entry.method ≡ METHOD_NONE → entry.proof.now ≡ []
   pub proved : entry.method ≢ METHOD_NONE → entry.proof.now ≢ []
+  pub short : entry.method ≡ METHOD_PASSWORD → length entry.proof.now ≤ PASSWORD_LIMIT
 
 -- a host key is here, or where the server asks elsewhere
 abbrev pub IsPlaced : Bool → HostKeyInput → Type 0

@@ -14,7 +14,7 @@ use Rattle.rezdolin.specs.declared.steps.Ready.{Ready}
 use Rattle.rezdolin.specs.declared.steps.Reply.{Reply}
 use Rattle.rezdolin.specs.declared.steps.Reply.TheVariants as reply
 use Rattle.rezdolin.specs.declared.parts_of.Parts.{Parts}
-use Rattle.rezdolin.specs.Endpoints.{AreAllowed, AreListed, AreRead, IsConfigOf, RefusesParts, Trusts, digest_of, setup_of}
+use Rattle.rezdolin.specs.Endpoints.{AreAllowed, AreListed, AreRead, HasDrawn, IsConfigOf, RefusesParts, Trusts, digest_of, setup_of}
 use Rattle.rezdolin.specs.Frames.{IsFrameOf}
 use Rattle.rezdolin.specs.Steps.{IsNoRecord, IsReply, StandsBy, is_for}
 
@@ -38,6 +38,7 @@ record_step fault.Unreadable = no.Record
 -- what a call has of its parts
 pub record IsReady (parts : Parts) (ready : Ready) : Type 0 where
   pub read : AreRead parts
+  pub drawn : HasDrawn parts
   pub config : IsConfigOf parts ready.config
   pub digest : ready.digest ≡ digest_of parts
   pub trust : (d : DecisionsData) → AreAllowed parts d → Trusts ready.trust d
@@ -46,6 +47,7 @@ pub record IsReady (parts : Parts) (ready : Ready) : Type 0 where
 -- why a call begins no endpoint
 abbrev pub WhyNot : Parts → NoStep → Type 0
 WhyNot parts no.Unreadable = AreRead parts → ⊥
+WhyNot parts no.Draws = HasDrawn parts → ⊥
 WhyNot parts (no.Config f) = RefusesParts parts f
 WhyNot parts no.Record = ⊥
 WhyNot parts no.Parts = ⊥
@@ -64,6 +66,7 @@ IsOfOthers parts bytes = (other : List ℕ) × IsFrameOf bytes other × (other �
 -- why a call doesn't go on from a record
 abbrev pub WhyNotFrom : Parts → List ℕ → NoStep → Type 0
 WhyNotFrom parts bytes no.Unreadable = AreRead parts → ⊥
+WhyNotFrom parts bytes no.Draws = HasDrawn parts → ⊥
 WhyNotFrom parts bytes (no.Config f) = RefusesParts parts f
 WhyNotFrom parts bytes no.Record = IsNoFrame parts bytes
 WhyNotFrom parts bytes no.Parts = IsOfOthers parts bytes

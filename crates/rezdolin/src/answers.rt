@@ -52,6 +52,9 @@ pub const STATUS_UNASKED: u32 = 11;
 /// The text has no private key that can be used.
 pub const STATUS_IDENTITY: u32 = 12;
 
+/// A draw has bytes that are all equal, as those of a buffer are that nobody filled.
+pub const STATUS_DRAWS: u32 = 13;
+
 /// The endpoint goes on.
 pub const END_OPEN: u32 = 0;
 
@@ -216,6 +219,7 @@ pub(crate) fn no_step(fault: NoStep) -> StepAnswer
 {
     match fault {
         NoStep::Unreadable => unanswered(STATUS_UNREADABLE, 0),
+        NoStep::Draws => unanswered(STATUS_DRAWS, 0),
         NoStep::Config(fault) => no_config(fault),
         NoStep::Record => unanswered(STATUS_RECORD, 0),
         NoStep::Parts => unanswered(STATUS_PARTS, 0),
@@ -293,6 +297,8 @@ pub(crate) fn step_answer(came: &Came) -> StepAnswer
 pub(crate) enum BytesFault {
     /// What was put in can't be read.
     Unreadable,
+    /// The draw has bytes that are all equal.
+    Draws,
     /// The payload has no byte, or too many.
     Payload,
     /// The direction is used up.
@@ -315,6 +321,7 @@ pub(crate) fn no_bytes(fault: BytesFault) -> BytesAnswer
 {
     match fault {
         BytesFault::Unreadable => bytes_answer(STATUS_UNREADABLE, 0, 0),
+        BytesFault::Draws => bytes_answer(STATUS_DRAWS, 0, 0),
         BytesFault::Payload => bytes_answer(STATUS_PAYLOAD, 0, 0),
         BytesFault::UsedUp => bytes_answer(STATUS_USED_UP, 0, 0),
         BytesFault::More => bytes_answer(STATUS_MORE, 0, 0),

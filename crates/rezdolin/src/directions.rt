@@ -19,6 +19,7 @@ ghost use Rattle.rezdolin.specs.Records.{direction_bytes, state_bytes};
 
 use crate::answers::BytesFault;
 use crate::copying::is_copied;
+use crate::drawn::is_uniform;
 use crate::record::put_fields;
 use byteorder::{BigEndian, ByteOrder};
 use sshcore::{Direction, LINK_BYTES_LIMIT, LINK_LIMIT};
@@ -209,6 +210,9 @@ pub(crate) fn seal(
 {
     if padding_seed.len() != 32 {
         return Err(BytesFault::Unreadable);
+    }
+    if is_uniform(padding_seed) {
+        return Err(BytesFault::Draws);
     }
     if payload.is_empty() || payload.len() > PAYLOAD_LIMIT {
         return Err(BytesFault::Payload);

@@ -4,6 +4,7 @@ ghost use Rattle.std.specs.Prelude.{◌≡◌, ◌≢◌, ◌++◌, IfErr, IfOk,
 ghost use Rattle.rezdolin.specs.declared.frame.FrameFault.TheVariants as frame;
 ghost use Rattle.rezdolin.specs.Frames.{IsFrameFault, IsFrameOf, framed};
 
+use sshsuite::is_same_secret;
 use sshwire::Memory;
 use std::alloc::Global;
 
@@ -42,7 +43,7 @@ pub(crate) fn frame_in(bytes: &[u8]) -> Option<FrameParts<'_>>
     Some(FrameParts { digest, text })
 }
 
-/// The record in a frame with this digest.
+/// The record in a frame with this digest, which is of secrets: it is compared in a time that doesn't tell where it differs.
 pub(crate) fn text_in<'a>(bytes: &'a [u8], digest: &[u8; 32]) -> Result<&'a [u8], FrameFault>
     ensures text { IfOk result (λ text. bytes.now ≡ framed digest.now text.now) }
     ensures refused { IfErr result (λ f. IsFrameFault bytes.now digest.now f) }
@@ -50,7 +51,7 @@ pub(crate) fn text_in<'a>(bytes: &'a [u8], digest: &[u8; 32]) -> Result<&'a [u8]
     let Some(frame) = frame_in(bytes) else {
         return Err(FrameFault::Record);
     };
-    if frame.digest != digest.as_slice() {
+    if !is_same_secret(frame.digest, digest) {
         return Err(FrameFault::Parts);
     }
     Ok(frame.text)

@@ -12,6 +12,7 @@
 mod answers;
 mod copying;
 mod directions;
+mod drawn;
 mod frame;
 mod inputs;
 mod laws;
@@ -26,6 +27,7 @@ mod steps;
 mod telling;
 mod texts;
 mod trust;
+mod verdicts;
 
 ghost use Rattle.std.specs.Prelude.{◌≡◌, ◌≢◌, List, length, replicate, ℕ};
 ghost use Rattle.sshsuite.specs.Deployed.{deployed};
@@ -33,6 +35,7 @@ ghost use Rattle.rezdolin.specs.Directions.{IsOpened, IsPut, IsSealed};
 ghost use Rattle.rezdolin.specs.declared.parts_of.Parts.TheVariants as parts;
 ghost use Rattle.rezdolin.specs.Steps.{Begins, Calls, Disconnects, GoesOn, IsAnsweredBy, IsBlob, emptied};
 ghost use Rattle.rezdolin.specs.StepsView.{WhyNoAnswer, WhyNoLeave, WhyNot, WhyNotFrom};
+ghost use Rattle.rezdolin.specs.Verdicts.{IsVerdict};
 
 use crate::answers::{BytesAnswer, BytesFault, STATUS_ANSWERED, StepAnswer, no_bytes};
 use crate::copying::{empty, is_copied};
@@ -41,6 +44,7 @@ use crate::inputs::{ClientInput, ServerInput};
 use crate::parts_of::Parts;
 use crate::steps::{answered, begun, disconnected, stepped};
 use crate::telling::tell;
+use crate::verdicts::verdict;
 use sshidentity::identity_in;
 use sshpacket::Suite;
 use sshsuite::DeployedSuite;
@@ -235,6 +239,22 @@ pub extern "C" fn rezdolin_public_key(
         Ok(blob) => no_bytes(BytesFault::Room(blob.len())),
         Err(_) => no_bytes(BytesFault::Memory),
     }
+}
+
+/// Whether a signature is that of the input by this public key and this algorithm (RFC 4253 section 6.6), whose name is that of the
+/// signature: [`ANSWER_YES`](crate::inputs::ANSWER_YES) or [`ANSWER_NO`](crate::inputs::ANSWER_NO). It is 0 where the signature wasn't
+/// looked at: the library verifies no such algorithm, something has more than 2^32 - 1 bytes, or memory ran out.
+#[unsafe(no_mangle)]
+pub extern "C" fn rezdolin_is_signed(
+    alloc: Global,
+    algorithm: &[u8],
+    key: &[u8],
+    input: &[u8],
+    signature: &[u8],
+) -> u32
+    ensures { IsVerdict deployed algorithm.now key.now input.now signature.now result }
+{
+    verdict(alloc, algorithm, key, input, signature)
 }
 
 /// The private key in the text of a file as `ssh-keygen -t ed25519` writes it, without a passphrase: its 32 bytes, for an attempt or a

@@ -5,8 +5,9 @@ ghost use Rattle.sshsuite.specs.declared.deployed_suite.DeployedSuite.{DeployedS
 ghost use Rattle.sshcore.specs.declared.record_fault.RecordFault.TheVariants as no_record;
 ghost use Rattle.sshcore.specs.Asking.{AskingMade};
 ghost use Rattle.sshcore.specs.EndpointParts.{DecisionsData};
-ghost use Rattle.rezdolin.specs.Endpoints.{AreAllowed, AreListed, AreRead, IsConfigOf, IsNone, RefusesParts, Resumes, Trusts, config_in, digest_of, means, role_in};
+ghost use Rattle.rezdolin.specs.Endpoints.{AreAllowed, AreListed, AreRead, HasDrawn, IsConfigOf, IsNone, RefusesParts, Resumes, Trusts, config_in, digest_of, means, role_in};
 
+use crate::drawn::are_drawn;
 use crate::inputs::{ClientInput, ServerInput};
 use crate::parts::{NoConfig, client_config, server_config};
 use crate::parts_digest::{client_digest, server_digest};
@@ -40,6 +41,17 @@ impl<'a> Parts<'a> {
         match self {
             Parts::Client(client) => is_client_read(client),
             Parts::Server(server) => is_server_read(server),
+        }
+    }
+
+    /// Whether none of their draws has bytes that are all equal.
+    pub(crate) fn are_drawn(&self) -> bool
+        ensures yes { result ≡ true → HasDrawn self.now }
+        ensures no { result ≡ false → HasDrawn self.now → ⊥ }
+    {
+        match self {
+            Parts::Client(client) => are_drawn(&client.side),
+            Parts::Server(server) => are_drawn(&server.side),
         }
     }
 

@@ -12,6 +12,7 @@ use crate::inputs::{
     METHOD_PUBLICKEY, METHOD_SIGNED, READING_DEPLOYED, READING_STRICT, STRICT_NO, STRICT_YES,
     ServerInput, UserInput,
 };
+use sshcore::PASSWORD_LIMIT;
 
 /// Whether the numbers of a client can be read.
 pub(crate) fn is_client_read(client: &ClientInput<'_>) -> bool
@@ -116,7 +117,7 @@ fn is_attempt(attempt: &AttemptInput<'_>, asks: bool) -> bool
     (is_method(attempt.method) || (attempt.method == METHOD_SIGNED && asks)) && attempt.ask <= 1
 }
 
-/// Whether an entry has a user, a method, and what the method wants: nothing, or some bytes.
+/// Whether an entry has a user, a method, and what the method wants: nothing, or some bytes, of a password no more than are looked at.
 fn is_entry(entry: &UserInput<'_>) -> bool
     ensures yes { result ≡ true → IsEntry entry.now }
     ensures no { result ≡ false → IsEntry entry.now → ⊥ }
@@ -124,4 +125,5 @@ fn is_entry(entry: &UserInput<'_>) -> bool
     !entry.user.is_empty()
         && is_method(entry.method)
         && entry.proof.is_empty() == (entry.method == METHOD_NONE)
+        && (entry.method != METHOD_PASSWORD || entry.proof.len() <= PASSWORD_LIMIT)
 }

@@ -37,6 +37,8 @@ use std::alloc::Global;
 pub(crate) enum NoStep {
     /// What was put in can't be read.
     Unreadable,
+    /// A draw has bytes that are all equal.
+    Draws,
     /// The parts make no config.
     Config(NoConfig),
     /// The record is none.
@@ -124,6 +126,9 @@ fn prepare<'a>(alloc: Global, parts: &Parts<'a>) -> Result<Ready<'a>, NoStep>
 {
     if !parts.are_read() {
         return Err(NoStep::Unreadable);
+    }
+    if !parts.are_drawn() {
+        return Err(NoStep::Draws);
     }
     let config = parts.config(alloc)?;
     let digest = parts.digest(alloc)?;

@@ -2,10 +2,10 @@
 
 ghost use Rattle.std.specs.Prelude.{◌≡◌, ◌&&◌};
 ghost use Rattle.sshcore.specs.EndpointPartsView.{proof_data};
-ghost use Rattle.rezdolin.specs.Trust.{is_trusted, accepts, proves, trust_policy};
+ghost use Rattle.rezdolin.specs.Trust.{accepts, is_entry_of, is_looked_at, is_trusted, proves, trust_policy};
 
 use crate::inputs::{METHOD_NONE, METHOD_PASSWORD, METHOD_PUBLICKEY, UserInput};
-use sshcore::{Decisions, Proof};
+use sshcore::{Decisions, PASSWORD_LIMIT, Proof};
 use sshsuite::is_same_secret;
 use sshwire::Memory;
 use std::alloc::Global;
@@ -51,13 +51,35 @@ fn is_trusted(keys: &[&[u8]], blob: &[u8]) -> bool
     keys.iter().any(|key| *key == blob)
 }
 
-/// Whether one of the entries has this user and this proof.
+/// Whether one of the entries has this user and this proof. A password that is too long isn't looked at. Of any other one each entry
+/// is compared whole, so the time doesn't tell whether an entry has the user.
 fn accepts(users: &[UserInput<'_>], user: &[u8], proof: &Proof<'_>) -> bool
     ensures { result ≡ accepts users.now user.now (proof_data proof.now) }
 {
-    users
-        .iter()
-        .any(|entry| entry.user == user && proves(entry, proof))
+    let mut is_accepted = false;
+    if is_looked_at(proof) {
+        for entry in users {
+            is_accepted |= is_entry_of(entry, user, proof);
+        }
+    }
+    is_accepted
+}
+
+/// Whether a proof is looked at: a password has at most as many bytes as one of a plan (C6).
+fn is_looked_at(proof: &Proof<'_>) -> bool
+    ensures { result ≡ is_looked_at (proof_data proof.now) }
+{
+    match proof {
+        Proof::Password(password) => password.len() <= PASSWORD_LIMIT,
+        Proof::None | Proof::Key { .. } => true,
+    }
+}
+
+/// Whether an entry has this user and this proof: both are compared, whatever the first comparison gives.
+fn is_entry_of(entry: &UserInput<'_>, user: &[u8], proof: &Proof<'_>) -> bool
+    ensures { result ≡ is_entry_of entry.now user.now (proof_data proof.now) }
+{
+    is_same_secret(entry.user, user) & proves(entry, proof)
 }
 
 /// Whether the proof is the one of an entry. Passwords are compared in a time that doesn't tell where they differ.

@@ -1,9 +1,11 @@
 //! What the endpoints of a client and of a server are answered where they ask.
 
 use crate::agent_fault::AgentFault;
+use crate::asked_groups::AskedGroups;
 use crate::authorized::tell_line;
 use crate::fault::Fault;
-use crate::parts::server_trust;
+use crate::groups::{DIGITS, GROUP_LEN, asked_groups, asked_word};
+use crate::parts::{random, server_trust};
 use crate::report;
 use crate::settings::Settings;
 use crate::terminal::is_confirmed;
@@ -127,19 +129,24 @@ impl Answers<'_> {
     }
 }
 
-/// How many characters of a key's hash a person types to trust it.
-const TYPED: usize = 6;
+/// How many random bytes are drawn for the groups that a person types: so many that three different ones are always among them, but
+/// for a chance below 2^-128.
+const DRAWN: usize = 64;
 
-/// Whether the person at the terminal trusts this host key, and says so by the first characters of its hash, which nobody can type
-/// before the question tells them.
+/// Whether the person at the terminal trusts this host key, and says so by groups of its hash that are drawn now, so nobody can type
+/// them before the question tells them.
 fn trusts(rt: &HostRuntime, settings: &Settings<'_>, blob: &[u8]) -> Result<bool, Fault> {
     let host = settings.host.unwrap_or("");
     let hash = hash_of(rt.alloc(), blob)?;
-    let question = question_of(rt.alloc(), host, &hash)?;
-    match hash.get(..TYPED) {
-        Some(word) => Ok(is_confirmed(rt, &question, word)),
-        None => Ok(false),
-    }
+    let Some(digits) = hash.as_bytes().as_array::<DIGITS>() else {
+        return Ok(false);
+    };
+    let Some(groups) = asked_groups(&random::<DRAWN>(rt)?) else {
+        return Err(Fault::Random);
+    };
+    let question = question_of(rt.alloc(), host, &hash, groups)?;
+    let word = asked_word(rt.alloc(), digits, groups)?;
+    Ok(is_confirmed(rt, &question, &word)?)
 }
 
 /// A key's hash, as `ssh-keygen -l` prints it after `SHA256:`.
@@ -149,9 +156,32 @@ fn hash_of(alloc: Global, blob: &[u8]) -> Result<String, Fault> {
     Ok(hash)
 }
 
-/// The question whether a host key is trusted, which it names by its fingerprint, as `ssh-keygen -l` does.
-fn question_of(alloc: Global, host: &str, hash: &str) -> Result<String, Fault> {
+/// The question whether a host key is trusted, which it names by its fingerprint, as `ssh-keygen -l` does, and asks for these groups.
+fn question_of(
+    alloc: Global,
+    host: &str,
+    hash: &str,
+    groups: AskedGroups,
+) -> Result<String, Fault> {
+    let table = table_of(alloc, hash)?;
+    let (first, second, third) = (groups.first + 1, groups.second + 1, groups.third + 1);
+    let compare = "compare all of it with the fingerprint that the server's owner gives you";
     Ok(format!(in alloc;
-        "no key of {host} is known; SHA256:{hash}: type its first {TYPED} characters to trust it: "
+        "no key of {host} is known; SHA256:{hash}\n{table}\n{compare}; to trust it, type groups {first}, {second} and {third}: "
     )?)
+}
+
+/// The groups of a hash after their numbers, in two lines.
+fn table_of(alloc: Global, hash: &str) -> Result<String, Fault> {
+    let mut table = String::new(alloc);
+    for (number, group) in (1..12).zip(hash.as_bytes().chunks(GROUP_LEN)) {
+        let before = match number {
+            1 => "",
+            7 => "\n",
+            _ => " ",
+        };
+        let group = str::from_utf8(group).unwrap_or("");
+        table.push_str(&format!(in alloc; "{before}{number:>3} {group}")?)?;
+    }
+    Ok(table)
 }

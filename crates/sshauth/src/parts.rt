@@ -7,8 +7,8 @@ use crate::own_key::{OwnKey, own_key};
 use crate::settings::Settings;
 use crate::trust::Trust;
 use sshcore::{
-    Attempt, ClientConfig, ClientParts, Credential, Draws, HostKey, ServerConfig, ServerParts,
-    SideParts, SuiteFault,
+    Attempt, ClientConfig, ClientParts, ConfigFault, Credential, Draws, HostKey, PASSWORD_LIMIT,
+    ServerConfig, ServerParts, SideParts, SuiteFault,
 };
 use sshidentity::{bytes_of, first_line};
 use sshsuite::DeployedSuite;
@@ -104,12 +104,16 @@ pub(crate) fn server_trust(rt: &HostRuntime, settings: &Settings<'_>) -> Result<
     })
 }
 
-/// The password, where a file has one.
+/// The password, where a file has one. A longer one than any that is accepted is refused.
 fn password_of(rt: &HostRuntime, settings: &Settings<'_>) -> Result<Option<Vec<u8>>, Fault> {
-    match settings.password_file {
-        Some(path) => Ok(Some(first_line(rt, "password-file", path)?)),
-        None => Ok(None),
+    let Some(path) = settings.password_file else {
+        return Ok(None);
+    };
+    let password = first_line(rt, "password-file", path)?;
+    if password.len() > PASSWORD_LIMIT {
+        return Err(Fault::Config(ConfigFault::Secret));
     }
+    Ok(Some(password))
 }
 
 /// A client's parts.

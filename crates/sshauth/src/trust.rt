@@ -4,9 +4,9 @@ ghost use Rattle.std.specs.Prelude.{◌≡◌, option_map};
 ghost use Rattle.sshcore.specs.EndpointPartsView.{proof_data};
 ghost use Rattle.sshcore.specs.Questions.{decided, is_yes};
 ghost use Rattle.sshcore.specs.QuestionsView.{question_data};
-ghost use Rattle.sshauth.specs.Trust.{has_key, is_own, is_trusted, leaves_open, proves, trust_policy};
+ghost use Rattle.sshauth.specs.Trust.{accepts, has_key, is_own, is_trusted, leaves_open, proves, trust_policy};
 
-use sshcore::{Decisions, Proof, Question};
+use sshcore::{Decisions, PASSWORD_LIMIT, Proof, Question};
 use sshsuite::is_same_secret;
 use sshwire::Memory;
 use std::alloc::Global;
@@ -35,9 +35,7 @@ impl Decisions for Trust {
     }
 
     fn user(&self, _request_number: u32, user: &str, _service: &str, proof: &Proof<'_>) -> bool {
-        let is_user = self.user.as_str() == user;
-        let proves = proves(self, proof);
-        is_user && proves
+        accepts(self, user, proof)
     }
 
     fn signature(
@@ -91,6 +89,16 @@ pub(crate) fn has_key(keys: &[Vec<u8>], blob: &[u8]) -> bool
     keys.iter().any(|key| key.as_slice() == blob)
 }
 
+/// Whether it is the one user, and the proof is accepted. Both are looked at always, so that the time doesn't tell which of them
+/// failed.
+fn accepts(trust: &Trust, user: &str, proof: &Proof<'_>) -> bool
+    ensures { result ≡ accepts trust.now user.now (proof_data proof.now) }
+{
+    let is_user = is_same_secret(trust.user.as_bytes(), user.as_bytes());
+    let proves = proves(trust, proof);
+    is_user & proves
+}
+
 /// Whether the proof is accepted.
 fn proves(trust: &Trust, proof: &Proof<'_>) -> bool
     ensures { result ≡ proves trust.now (proof_data proof.now) }
@@ -102,12 +110,12 @@ fn proves(trust: &Trust, proof: &Proof<'_>) -> bool
     }
 }
 
-/// Whether there is a password, and it is this one.
+/// Whether there is a password, and it is this one. One that is longer than a client of this project sends isn't looked at.
 fn is_own(own: &Option<Vec<u8>>, bytes: &[u8]) -> bool
     ensures { result ≡ is_own (option_map (λ v. v.items) own.now) bytes.now }
 {
     match own {
-        Some(own) => is_same_secret(own, bytes),
+        Some(own) => bytes.len() <= PASSWORD_LIMIT && is_same_secret(own, bytes),
         None => false,
     }
 }

@@ -1,7 +1,7 @@
 -- What `run` and `predict` print: a line for each side's end, whether it is complete, and what was agreed.
 
-use Rattle.std.specs.Prelude.{◌/◌, ◌%◌, ℕ, Bool, false, List, [], ◌∷◌, ◌++◌, codes, decimal, Option, None, Some, if◌then◌else◌, flat_map}
-use Rattle.std.specs.Fmt.{digit_glyph}
+use Rattle.std.specs.Prelude.{ℕ, Bool, List, [], ◌∷◌, ◌++◌, codes, decimal, Option, None, Some, if◌then◌else◌}
+use Rattle.hex.specs.Hex.{encode_lower}
 use Rattle.sshneg.specs.Fields.{AlgorithmsData}
 use Rattle.sshcore.specs.EndData.{AgreedData, Authenticated, Closed, Disconnected, EndData, Failed, Open}
 use Rattle.sshcore.specs.Printed.{fault_text}
@@ -23,18 +23,14 @@ line word text = word ++ (32 ∷ (text ++ (10 ∷ [])))
 abbrev pub yes_or_no : Bool → List ℕ
 yes_or_no flag = if flag then codes "yes" else codes "no"
 
--- a byte as two digits, in lower case
-abbrev pub hex_digits : ℕ → List ℕ
-hex_digits byte = digit_glyph false (byte / 16) ∷ digit_glyph false (byte % 16) ∷ []
-
 -- whether nothing waits for either side, where that is told
 abbrev pub complete_text : Option Bool → List ℕ
 complete_text None = []
 complete_text (Some complete) = line (codes "complete") (yes_or_no complete)
 
--- the session identifier, where it is asked for
+-- the session identifier in digits of lower case, two a byte, where it is asked for
 abbrev pub session_text : Bool → List ℕ → List ℕ
-session_text asked session = if asked then line (codes "session") (flat_map hex_digits session) else []
+session_text asked session = if asked then line (codes "session") (encode_lower session) else []
 
 -- the names of the algorithms; compression has no line
 abbrev pub algorithms_text : AlgorithmsData → List ℕ

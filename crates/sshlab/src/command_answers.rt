@@ -65,6 +65,7 @@ fn prediction_of(alloc: Global, text: &[u8], session: bool) -> Result<Answer, Co
 {
     let (client, server) = ends_of(alloc, text)?;
     let report = Report {
+        alloc,
         client: &client,
         server: &server,
         complete: None,
@@ -140,6 +141,7 @@ fn world_told<S: Suite, D: Decisions>(
     let (client, server) = world.ends();
     let complete = world.complete();
     let report = Report {
+        alloc,
         client,
         server,
         complete: Some(complete),

@@ -17,6 +17,7 @@ use std::fmt;
 /// The streams of both sides.
 #[derive(Drop)]
 pub(crate) struct Listing<'a> {
+    alloc: Global,
     pub(crate) client: RecordedStream<'a>,
     pub(crate) server: RecordedStream<'a>,
 }
@@ -25,6 +26,7 @@ impl<'a> Listing<'a> {
     /// Reads what both sides of a recording sent. Answers `Memory` only where an allocation failed.
     pub(crate) fn of(alloc: Global, recording: &'a Recording) -> Result<Listing<'a>, Memory> {
         Ok(Listing {
+            alloc,
             client: RecordedStream::read(alloc, &recording.client, 0)?,
             server: RecordedStream::read(alloc, &recording.server, OTHER_LINE_LIMIT)?,
         })
@@ -34,17 +36,18 @@ impl<'a> Listing<'a> {
 impl fmt::Display for Listing<'_> {
     /// Writes a line for each line and each clear packet of the client, then of the server.
     fn fmt<W: fmt::Write>(&self, f: &mut fmt::Formatter<W>) -> fmt::Result {
-        write_stream(f, "client", &self.client)?;
-        write_stream(f, "server", &self.server)
+        write_stream(self.alloc, f, "client", &self.client)?;
+        write_stream(self.alloc, f, "server", &self.server)
     }
 }
 
 fn write_stream<W: fmt::Write>(
+    alloc: Global,
     f: &mut fmt::Formatter<W>,
     side: &str,
     stream: &RecordedStream<'_>,
 ) -> fmt::Result {
-    write_lines(f, side, &stream.lines)?;
+    write_lines(alloc, f, side, &stream.lines)?;
     if let Some(version) = &stream.version {
         writeln!(f, "{side} version {version}")?;
     }
@@ -57,24 +60,29 @@ fn write_stream<W: fmt::Write>(
 }
 
 fn write_lines<W: fmt::Write>(
+    alloc: Global,
     f: &mut fmt::Formatter<W>,
     side: &str,
     lines: &[&[u8]],
 ) -> fmt::Result {
     for line in lines {
         write!(f, "{side} line ")?;
-        write_hex_or_dash(f, line)?;
+        write_hex_or_dash(alloc, f, line)?;
         f.write_str("\n")?;
     }
     Ok(())
 }
 
 /// Two digits in lower case for each byte, `-` for no bytes.
-fn write_hex_or_dash<W: fmt::Write>(f: &mut fmt::Formatter<W>, bytes: &[u8]) -> fmt::Result {
+fn write_hex_or_dash<W: fmt::Write>(
+    alloc: Global,
+    f: &mut fmt::Formatter<W>,
+    bytes: &[u8],
+) -> fmt::Result {
     if bytes.is_empty() {
         return f.write_str("-");
     }
-    write_hex(f, bytes)
+    write_hex(alloc, f, bytes)
 }
 
 fn write_packets<W: fmt::Write>(

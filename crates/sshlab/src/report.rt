@@ -1,16 +1,20 @@
 //! How the ends of a session are printed.
 
-ghost use Rattle.std.specs.Prelude.{◌≡◌, Some, flat_map};
+ghost use Rattle.std.specs.Prelude.{◌≡◌, Some};
 ghost use Rattle.std.specs.Fmt.{WritesOnOk};
+ghost use Rattle.hex.specs.Hex.{encode_lower};
 ghost use Rattle.sshcore.specs.EndData.{agreed_data, end_data};
-ghost use Rattle.sshlab.specs.Reports.{agreed_text, agreement_text, algorithms_text, complete_text, end_text, hex_digits, report_text, session_text, yes_or_no};
+ghost use Rattle.sshlab.specs.Reports.{agreed_text, agreement_text, algorithms_text, complete_text, end_text, report_text, session_text, yes_or_no};
 
 use sshcore::{Agreed, End};
+use std::alloc::Global;
 use std::fmt;
 
 /// The ends of both sides, and what was agreed.
 #[derive(Clone, Copy)]
 pub(crate) struct Report<'a> {
+    /// For the digits of the session identifier.
+    pub(crate) alloc: Global,
     pub(crate) client: &'a End,
     pub(crate) server: &'a End,
     /// Whether nothing waits for either side, where that is to be told.
@@ -28,7 +32,7 @@ impl fmt::Display for Report<'_> {
         writeln!(f, "client {client}")?;
         writeln!(f, "server {server}")?;
         write_complete(f, self.complete)?;
-        write_agreement(f, self.client, self.server, self.session)
+        write_agreement(self.alloc, f, self.client, self.server, self.session)
     }
 }
 
@@ -66,6 +70,7 @@ fn write_complete<W: fmt::Write>(f: &mut fmt::Formatter<W>, complete: Option<boo
 }
 
 fn write_agreement<W: fmt::Write>(
+    alloc: Global,
     f: &mut fmt::Formatter<W>,
     client: &End,
     server: &End,
@@ -75,13 +80,14 @@ fn write_agreement<W: fmt::Write>(
 {
     match (client, server) {
         (End::Authenticated(agreed), _) | (_, End::Authenticated(agreed)) => {
-            write_agreed(f, agreed, session)
+            write_agreed(alloc, f, agreed, session)
         }
         _ => Ok(()),
     }
 }
 
 fn write_agreed<W: fmt::Write>(
+    alloc: Global,
     f: &mut fmt::Formatter<W>,
     agreed: &Agreed,
     session: bool,
@@ -91,7 +97,7 @@ fn write_agreed<W: fmt::Write>(
     write_algorithms(f, agreed)?;
     let strict = yes_or_no(agreed.strict);
     writeln!(f, "strict {strict}")?;
-    write_session(f, session, &agreed.session)
+    write_session(alloc, f, session, &agreed.session)
 }
 
 fn write_algorithms<W: fmt::Write>(f: &mut fmt::Formatter<W>, agreed: &Agreed) -> fmt::Result
@@ -112,6 +118,7 @@ fn write_algorithms<W: fmt::Write>(f: &mut fmt::Formatter<W>, agreed: &Agreed) -
 }
 
 fn write_session<W: fmt::Write>(
+    alloc: Global,
     f: &mut fmt::Formatter<W>,
     asked: bool,
     session: &[u8],
@@ -122,24 +129,20 @@ fn write_session<W: fmt::Write>(
         return Ok(());
     }
     f.write_str("session ")?;
-    write_hex(f, session)?;
+    write_hex(alloc, f, session)?;
     f.write_str("\n")
 }
 
-/// Two digits in lower case for each byte.
-pub(crate) fn write_hex<W: fmt::Write>(f: &mut fmt::Formatter<W>, bytes: &[u8]) -> fmt::Result
-    ensures { WritesOnOk W.write_str_gives f.old result (flat_map hex_digits bytes.now) f.new }
+/// Two digits in lower case for each byte. A failed allocation is a failed write.
+pub(crate) fn write_hex<W: fmt::Write>(
+    alloc: Global,
+    f: &mut fmt::Formatter<W>,
+    bytes: &[u8],
+) -> fmt::Result
+    ensures { WritesOnOk W.write_str_gives f.old result (encode_lower bytes.now) f.new }
 {
-    for byte in bytes {
-        write_byte(f, *byte)?;
-    }
-    Ok(())
-}
-
-fn write_byte<W: fmt::Write>(f: &mut fmt::Formatter<W>, byte: u8) -> fmt::Result
-    ensures { WritesOnOk W.write_str_gives f.old result (hex_digits byte) f.new }
-{
-    write!(f, "{byte:02x}")
+    let digits = hex::encode(alloc, bytes).map_err(|_| fmt::Error)?;
+    f.write_str(&digits)
 }
 
 pub(crate) fn yes_or_no(flag: bool) -> &'static str

@@ -28,4 +28,4 @@ returns-clause-sealed c =
     let put : IsPut packet c.args.out.now c.len-len.result c.is_copied.new.out = (copied.0, len, copied.2) in
     sealed_by now.place now.keys c.sealed.new.keys c.args.padding_seed.now c.args.payload.now
     packet c.args.state.now c.raise.new.state c.args.out.now c.is_copied.new.out c.len-len.result
-    c.in_ok-next.ensures.0 c.in_ok-next.ensures.1 c.in_ok-next.ensures.2 next c.raise.ensures some short is put c.in-Ok.ensures.packet
+    c.in_ok-next.ensures.0 c.in_ok-next.ensures.1 c.in_ok-next.ensures.2 next c.raise.ensures (c.is_uniform.ensures.no c.if-is_uniform.false) some short is put c.in-Ok.ensures.packet

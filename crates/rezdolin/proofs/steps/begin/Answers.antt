@@ -12,7 +12,7 @@ returns c = record {
       let made = c.in_ok-endpoint.ensures.made in (
         same.0,
         subst (λ (x : List ℕ). ComesTo parts Starts [] x came.end came.record.items came.told.items) (sym same.1)
-            (begins_so parts c.args.ready.now.config ready.config ready.read c.in_ok-endpoint.endpoint made.0 c.args.ready.now.digest c.new-sent.result.items c.begin.new.out.items came.end came.record.items came.told.items
+            (begins_so parts c.args.ready.now.config ready.config ready.read ready.drawn c.in_ok-endpoint.endpoint made.0 c.args.ready.now.digest c.new-sent.result.items c.begin.new.out.items came.end came.record.items came.told.items
             ready.digest c.new-sent.ensures.items made.1 c.in_ok-came_to.ensures.stands c.in_ok-came_to.ensures.asks),
       );
 }

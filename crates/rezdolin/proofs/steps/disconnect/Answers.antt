@@ -11,7 +11,7 @@ pub returns-clause-came : goal.returns-clause-came
 returns-clause-came c = λ parts bytes ready framed_is. (
   refl,
   record {
-    taken = taken_so parts c.args.ready.now.config ready.read ready.config;
+    taken = taken_so parts c.args.ready.now.config ready.read ready.drawn ready.config;
     written_for = frame_so parts bytes c.args.text.now c.args.ready.now.digest ready.digest framed_is;
     none = c.new.ensures.items;
     nothing = c.new-2.ensures.items;

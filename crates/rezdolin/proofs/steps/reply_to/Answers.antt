@@ -18,7 +18,7 @@ returns-clause-came c = λ parts bytes ready framed_is.
     let kind = sym (c.is_for.ensures ∙ ap (λ (o : Option QuestionData). is_for a o) c.question.ensures.asks) ∙ c.if-not-is_for.false in (
       same.0,
       subst (λ (x : List ℕ). ComesTo parts (IsAnswered a (digest_of parts) bytes) [] x came.end came.record.items came.told.items) (sym same.1)
-          (answers_so parts c.args.ready.now.config ready.config ready.read a bytes c.args.text.now c.args.ready.now.digest c.in_ok-endpoint.endpoint c.give.new.endpoint c.new-sent.result.items c.give.new.sent.items
+          (answers_so parts c.args.ready.now.config ready.config ready.read ready.drawn a bytes c.args.text.now c.args.ready.now.digest c.in_ok-endpoint.endpoint c.give.new.endpoint c.new-sent.result.items c.give.new.sent.items
           came.end came.record.items came.told.items ready.digest framed_is c.in_ok-endpoint.ensures.resumes kind c.new-sent.ensures.items (c.in_ok-give.ensures.given kind) c.in_ok-give.ensures.owned
           c.in_ok-came_to.ensures.stands c.in_ok-came_to.ensures.asks),
     )

@@ -19,7 +19,7 @@ returns-clause-came c = λ parts bytes ready framed_is.
       (λ goes_on. let o = c.in_ok-came_to.ensures.opens goes_on in same.0 ∙ c.in_ok-used.ensures.whole o.0 o.1),
       subst (λ (n : ℕ). ComesTo parts (StandsHere (digest_of parts) bytes) (take n piece) came.sent.items came.end came.record.items came.told.items) (sym same.0)
           (subst (λ (x : List ℕ). ComesTo parts (StandsHere (digest_of parts) bytes) (take c.in_ok-used.used piece) x came.end came.record.items came.told.items) (sym same.1)
-          (steps_so parts c.args.ready.now.config ready.config ready.read c.args.ready.now.trust bytes c.args.text.now c.args.ready.now.digest
+          (steps_so parts c.args.ready.now.config ready.config ready.read ready.drawn c.args.ready.now.trust bytes c.args.text.now c.args.ready.now.digest
           c.in_ok-endpoint.endpoint c.carry.new.endpoint (take c.in_ok-used.used piece) c.new-sent.result.items c.carry.new.sent.items came.end came.record.items came.told.items
           ready.digest framed_is c.in_ok-endpoint.ensures.resumes ready.trust ready.lists c.new-sent.ensures.items c.in_ok-used.ensures.carried c.in_ok-used.ensures.decided
           c.in_ok-came_to.ensures.stands c.in_ok-came_to.ensures.asks)),
