@@ -51,7 +51,7 @@ part() {
 # process and that file.
 part_beside() {
   local begun=$SECONDS status=0
-  begin_part "$1, begun beside the part before"
+  begin_part "$1, begun beside the parts before"
   tail -n +1 -f --pid="$2" "$3" | tee "$log" | with_clock
   wait "$2" || status=$?
   end_part "$1" "$begun" "$status"
