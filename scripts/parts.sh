@@ -14,15 +14,25 @@ look_at_processors() {
   rm "$log.times"
 }
 
+# The folder of this shell's control group: of one of the older kind, whose name is told, or without a name of the newer one.
+group_folder() {
+  local root=/sys/fs/cgroup${1:+/$1} path
+  path=$(sed -n "s/^[0-9]*:$1://p" /proc/self/cgroup)
+  [ -d "$root$path" ] || path=
+  echo "$root${path%/}"
+}
+
 # The memory that can still be had, in MB: by the machine, and by the control group's limit where it has one.
 free_memory() {
-  local free limit=/sys/fs/cgroup/memory.max held
+  local free left group limit held
   free=$(awk '/^MemAvailable:/ { print int($2 / 1024) }' /proc/meminfo)
-  if [ -r "$limit" ] && [ "$(cat "$limit")" != max ]; then
-    held=$(awk '/^anon / { print $2 }' /sys/fs/cgroup/memory.stat)
-    limit=$((($(cat "$limit") - held) / 1048576))
-    [ "$limit" -ge "$free" ] || free=$limit
-  fi
+  while read -r group limit held; do
+    limit=$(cat "$group/$limit" 2>/dev/null) || continue
+    [ "$limit" != max ] || continue
+    left=$(awk -v limit="$limit" -v held="$held" '$1 == held { printf "%.0f", (limit - $2) / 1048576 }' "$group/memory.stat")
+    [ "$left" -ge "$free" ] || free=$left
+  done <<<"$(group_folder '') memory.max anon
+$(group_folder memory) memory.limit_in_bytes rss"
   echo "$free"
 }
 

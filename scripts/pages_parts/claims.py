@@ -7,10 +7,13 @@ None stands twice on a page. What a name leads to tells scripts/statements.py.
 
 docs/claims/names.txt has the names of each page's definitions, file by file: so a review shows what more has to be believed.
 
+Each word of the library that a page names has to be in a table of docs/NOTATION.md.
+
 Each page of KEPT and the names have to be what would be written now, git may have no other page in docs/claims, and docs/AUDIT.md has to
 link each page of KEPT and to have the command that prints each other. Pages are counted, and the names of each.
 """
 import os
+import re
 
 from pages_parts import ROOT, files, read, write_to
 from statements import Wrong
@@ -23,6 +26,10 @@ LAYERS = {
     'sshmsg': 'messages',
     'sshpacket': 'packets, and the suite of algorithms',
     'sshwire': 'version lines and data types',
+    'sshsuite': 'deployed algorithms',
+    'sshmlkem': 'ML-KEM-768',
+    'sshcurve': 'the curve of X25519 and Ed25519',
+    'sshkeccak': 'SHA-3 and SHAKE',
 }
 # What stands at the end of each page, part by part: the heading, the names that the part opens, and words about it.
 RECEIVED = ('What an endpoint has received and sent', ['EndpointAfter', 'EachReplies', 'IsNew'],
@@ -31,7 +38,7 @@ MESSAGES = ('How a payload is read and written as a message', ['message_in', 'wr
             'The layouts of RFC 4253, RFC 4252, RFC 5656 and RFC 8308, field by field.')
 INSIDE = ('What an endpoint keeps, and that it agrees with what was received and sent', ['IsInside', 'StateData', 'state_data', 'State', 'Input', 'held_by'],
           'What an endpoint has in memory between two calls. A caller sees none of it; it is here since `EndpointAfter` says that it agrees with the bytes.')
-CALLS = ('What the calls are given, and what is asked of the suite and the decisions',
+CALLS = ('What the calls are given, and what is asked of what they are given',
          'The types and traits in the heads of the functions, and the laws of a suite. Of a trait its ghost members stand here; of a type that hides its fields what contracts see of it, without what always holds of the fields.')
 
 
@@ -46,28 +53,43 @@ class Page:
 
 PAGES = {
     'headline': Page('The headline', """
-**To whom:** those who run a client and a server of this project against each other over a faithful wire, and those who want to know whether two configs fit.
+**To whom:** those who run a client and a server of this project against each other over a faithful wire, and those who want to know whether two configs work together.
 
-**What:** take a client and a server with accepted configs, one suite of algorithms and the same decisions. Deliver what each sends to the other, in order, in any pieces, as `run_by_hand` does over two vectors; its whole code is below. Then each side that has ended has the end that one function of configs, suite and decisions gives (`outcome`). If each has ended or used all that the other has sent, both have ended, and one is authenticated if and only if the other is, with the same that was agreed.
+**What:** take a client and a server with configs that `judge` accepts, deployed algorithms and one value that makes the decisions of both; the client lists curve25519-sha256 alone, by either of its names. Deliver what each sends to the other, in order, in any pieces, as `run_deployed` does over two vectors. Then each side that has ended, be it authenticated or not, has the end that one function of configs, suite and decisions gives (`outcome`). `run_deployed` also returns whether nothing is left to deliver: whether each side has ended or used all that the other has sent. If nothing is left, both have ended, and one is authenticated if and only if the other is, both with the same algorithms, strictness, session identifier, user and service. `run_any_deployed` says so of each method of `DeployedSuite` by which both sides can agree, and `run_by_hand`, which does the work, of any suite, if the configs are compatible.
 
-**What you have to believe:** that the code below is what a wire does, that `outcome` is what you want, and that a suite has its laws. `Endpoint`, `ClientConfig` and `ServerConfig` are opaque here: `endpoint_end` is what `end()` of an endpoint returns, and the data of a config are its parts, as [the endpoint's theorem](endpoint.md) has them. Of the functions after `run_by_hand` read the code: their clauses are for the prover. That the schedule is followed is in the code alone; for a `World` it is a clause (`ran`). [What is asked of a suite](suite.md) has a page of its own.
+**What you have to believe:** that `HasRunByHand` is what a wire does, that `outcome` is what you want, that `EndpointAfter` says what an endpoint does, and that `deployed` is what you mean by these algorithms. `EndpointAfter` is on the page of [the endpoint's theorem](endpoint.md). [PROVED](../PROVED.md#layers-and-algorithms) says what of `deployed` and of `deployed_inventory` (which algorithms there are) is proved to be the standards'. `scripts/pages --print claims agreement` prints what `hybrid_noise` and the numbers of group14 are. `Endpoint`, `ClientConfig` and `ServerConfig` are opaque: `endpoint_end` is what `end()` of an endpoint returns, and the data of a config are its parts. What a suite has to keep is on [a page of its own](suite.md). Bodies of functions are no part of the promise.
 
-**Premises:** neither side ran out of memory, else the function returns `Memory`. By the suite any two endpoints come to one shared secret, every private key is held, and every signature verifies (`AgreeingSuite`). Decisions are a function of what they are asked (`Decisions`). No premise is on `reading`: each side may read the other's version line strictly or as deployed peers write it. For another suite, such as `DeployedSuite`, and for worlds that go on, see the claim page that `scripts/pages --print claims world` prints.
+**Premises of `run_deployed`:** the suite has the algorithms that both configs list, and holds each private key (`IsFit`, which is what `judge` tests). Decisions are a function of what they are asked (`Decisions`). Nothing is assumed of the algorithms. It doesn't matter which form of version line a side accepts (`reading`). If the result is `Memory`, nothing is promised; that it is so only if an allocation failed isn't proved.
+
+**Premises of the others:** with `run_any_deployed` each method that the client lists, chosen or not, brings both sides to one shared secret (`CanAgree`). By mlkem768x25519-sha256 that is so if the noise of ML-KEM is small: 256 numbers that the random bytes of both configs give (`hybrid_noise`, `are_small`). By group14 it is so if both shares and the secret are from 2 to p - 2. With `run_by_hand` the two configs are compatible (`AreCompatible`); with an `AgreeingSuite` any two are (`run_agreeing`, [by_hand.rt](../../crates/sshpromises/src/by_hand.rt)). `settle_by_hand` there says how many rounds are enough. For two sides that go on after each call, see the claim page that `scripts/pages --print claims world` prints.
 """, [
-        ('sshpromises/src/by_hand.rt', 'run_by_hand', ['headline']),
-        ('sshpromises/src/by_hand.rt', 'carry', []),
-        ('sshpromises/src/by_hand.rt', 'feed_next', []),
-        ('sshpromises/src/by_hand.rt', 'next_of', []),
-        ('sshpromises/src/by_hand.rt', 'is_done', []),
-    ], [('What the two configs come to', ['outcome'], 'The outcome as a function of both configs, the suite and the decisions.')],
-        ('Endpoint', 'EndpointData', 'ClientConfig', 'ServerConfig', 'IsLawful', 'Suite'), True),
+        ('sshpromises/src/deployed.rt', 'run_deployed', ['ran', 'headline']),
+        ('sshpromises/src/deployed.rt', 'run_any_deployed', ['ran', 'headline']),
+        ('sshpromises/src/by_hand.rt', 'run_by_hand', ['ran', 'headline']),
+    ], [('What the two configs come to', ['outcome'], 'The outcome as a function of both configs, the suite and the decisions.'),
+        ('When a suite fits a config, and when two configs are compatible', ['IsFit', 'CanAgree', 'AreCompatible'])],
+        ('Endpoint', 'EndpointAfter', 'Input', 'State', 'ClientConfig', 'ServerConfig', 'IsLawful', 'Suite', 'deployed', 'deployed_inventory', 'hybrid_noise', 'power', 'exponent_of'), True),
     'suite': Page('What is asked of a suite of algorithms', """
 **To whom:** those who write a suite, and those who want to know what all promises assume of one.
 
 **What:** the trait `Suite` with the laws of one end (`IsLawful`), and the trait `AgreeingSuite` for a suite whose ends agree. Without the laws of one end it is no `Suite`: the prover wants them proved. `DeployedSuite`, the suites for tests and each inventory of algorithms have them, proved.
 """, [
-        ('sshpromises/src/by_hand.rt', 'run_by_hand', []),
+        ('sshpromises/src/by_hand.rt', 'run_agreeing', []),
     ], [], ('Endpoint', 'EndpointData', 'ClientConfig', 'ServerConfig', 'Headline', 'outcome', 'endpoint_end', 'Decisions', 'Delivery', 'Memory')),
+    'agreement': Page('Two ends of the deployed algorithms', """
+**To whom:** those who want to know when a client and a server with deployed algorithms come to one shared secret, and that a signature by a key that is held verifies.
+
+**What:** by curve25519-sha256 two ends come to one shared secret, whatever their random bytes are (`curve25519_law`). By mlkem768x25519-sha256 they do if the noise of ML-KEM between their random bytes is small; the client decrypts the server's message if and only if that noise keeps each bit of it (`hybrid_law`). By diffie-hellman-group14-sha256 they do if no share is refused (`group14_law`). What is signed by a private key that the suite holds verifies (`signature_law`). So two configs that `judge` accepts are compatible if by each method that the client lists both sides agree (`fit_law`).
+
+**What you have to believe:** that the noise below is that of FIPS 203. `deployed` is what the deployed algorithms compute, and `expanded` what they draw of the random bytes; [PROVED](../PROVED.md#layers-and-algorithms) says what of them is proved to be the standards'. FIPS 203 says that the noise is too great once in 2^164.8 exchanges. That takes SHAKE's output as random, so it is no theorem.
+""", [
+        ('sshsuite/src/laws.rt', 'curve25519_law', ['agrees']),
+        ('sshsuite/src/laws.rt', 'signature_law', ['signs']),
+        ('sshsuite/src/laws.rt', 'hybrid_law', ['agrees', 'exact']),
+        ('sshsuite/src/laws.rt', 'group14_law', ['read', 'agreed']),
+        ('sshpromises/src/deployed.rt', 'fit_law', ['-']),
+    ], [('What the noise is', ['hybrid_noise', 'KeepsMessage', 'are_small'])],
+        ('deployed', 'expanded', 'Decrypts', 'IsFit', 'AreCompatible', 'deployed_inventory', 'sha3_256', 'sha3_512', 'shake256_128', 'shake128_start', 'shake128_next', 'shake128_block')),
     'world': Page('Two endpoints and the bytes between them', """
 **To whom:** those who run a client and a server of this project against each other over a faithful wire, and those who want to know whether two configs fit.
 
@@ -211,9 +233,15 @@ def closure_of(book, page, functions):
     return closure.parts, closure.users
 
 
-def opened_later(named, known):
+def opened_later(named, known, whole):
     """Of what a part names, the names that a later one defines."""
-    return ', '.join(dict.fromkeys(f'`{x.name}`' for x in named if x not in known))
+    return ', '.join(dict.fromkeys(f'`{x.name}`' for x in named if x not in known and x in whole))
+
+
+def unopened(functions, whole, book):
+    """The names of the clauses and of all definitions that the page doesn't define."""
+    named = [it for function, wanted in functions for it in function.names(wanted, book)] + [x for it in whole for x in it.names(book)]
+    return ', '.join(sorted({f'`{x.name}`' for x in named if x not in whole}, key=str.lower))
 
 
 def shown(path):
@@ -272,10 +300,11 @@ class Opened:
 def written(book, opened):
     """The text of a page."""
     page, functions, parts, users, whole = opened.page, opened.functions, opened.parts, opened.users, opened.whole
-    paths = {it.file.path for it in whole}
+    paths, outside = {it.file.path for it in whole}, unopened(functions, whole, book)
+    lacking = f'These names aren\'t opened on this page: {outside}.' if outside else 'Nothing else has to be read to know what is promised.'
     out = [f'# {page.title}', '', page.words, '',
            f'Below stand {"the clauses of one function" if len(functions) == 1 else f"clauses of {len(functions)} functions"} and the {len(whole)} definitions on which they rest, {lines_of(whole)} lines of {len(paths)} files, '
-           'word for word. Nothing else has to be read to know what is promised, but the notation, which [NOTATION.md](../NOTATION.md) explains. Each part goes through the crates from the top one down; '
+           f'word for word. {lacking} [NOTATION.md](../NOTATION.md) explains the notation. Each part goes through the crates from the top one down; '
            'in a crate, what the clauses name comes first, then what that names, and so on. '
            'The page is written by `scripts/pages`; [AUDIT.md](../AUDIT.md) tells what would be possible if a statement were wrong.', '']
     out += ['| Part | Definitions | Lines |', '|---|---|---|']
@@ -283,7 +312,7 @@ def written(book, opened):
     out += ['', '## The clauses', '', *clauses_of(functions, page.whole)]
     places, named = {}, [it for function, wanted in functions for it in function.names(wanted, book)]
     for heading, words, order in parts:
-        later = opened_later(named + [x for it in order for x in it.names(book)], {*places, *order})
+        later = opened_later(named + [x for it in order for x in it.names(book)], {*places, *order}, whole)
         named = []
         told = [words] * bool(words) + [f'Named here and defined in a later part: {later}.'] * bool(later)
         out += [f'## {heading}', '', *([' '.join(told), ''] if told else [])]
@@ -314,6 +343,14 @@ def current(path, text, write):
     return [f'{path} isn\'t current: scripts/pages --write claims'] if old != text else []
 
 
+def unexplained(name, opened):
+    """The words of the library that a page names and no table of docs/NOTATION.md has."""
+    rows = re.findall(r'(?m)^\| ((?:\\\||[^|\n])*) \|', read('docs/NOTATION.md'))
+    known = ' '.join(re.findall(r'`([^`]+)`', ' '.join(rows))).replace('\\|', '|')
+    lacks = [x for x in sorted(opened.library) if not re.search(rf'(?<!\w){re.escape(x.strip("◌") or x)}(?!\w)', known)]
+    return [f'docs/NOTATION.md has no row for `{x}`, which the claim page {name} names' for x in lacks]
+
+
 def faults_of(book, name, opened, write):
     """What is wrong with a page."""
     audit = read('docs/AUDIT.md')
@@ -333,7 +370,7 @@ def judged(book, write):
     for name, page in PAGES.items():
         try:
             opened = Opened(book, page)
-            wrong, names[name] = faults_of(book, name, opened, write), names_of(name, opened)
+            wrong, names[name] = faults_of(book, name, opened, write) + unexplained(name, opened), names_of(name, opened)
         except Wrong as why:
             wrong = [f'the claim page {name} can\'t be written: {why}']
         faults += wrong

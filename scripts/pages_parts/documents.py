@@ -15,10 +15,10 @@ import re
 from pages_parts import found, read
 from statements import uncommented
 
-CRATES = ['sshwire', 'sshpacket', 'sshmsg', 'sshneg', 'sshcore', 'sshworld', 'sshpromises', 'sshkeccak', 'sshmlkem', 'sshsuite', 'sshlabsuites',
+CRATES = ['sshwire', 'sshpacket', 'sshmsg', 'sshneg', 'sshcore', 'sshworld', 'sshpromises', 'sshpolynomials', 'sshkeccak', 'sshmlkem', 'sshcurve', 'sshsuite', 'sshlabsuites',
           'sshlab', 'sshidentity', 'rezdolin']
 # the programs whose code pages show
-SHOWN = ['sshauth', 'sshexample_client', 'sshexample_server', 'sshexample_waiting', 'sshexample_layers']
+SHOWN = ['sshauth', 'sshexamples']
 PROGRAMS = {'rust': [f'crates/{crate}/src/*.rt' for crate in SHOWN]}
 # by page, and there by the word after a fence: the files that may have the block
 CODE = {

@@ -10,6 +10,7 @@ use crate::fault::Fault;
 use crate::files::check_private;
 use sshidentity::FileFault;
 use sshpacket::{SIGNATURE_LIMIT, Suite};
+use sshprogram::ProgramFault;
 use sshsuite::DeployedSuite;
 use sshwire::as_name;
 use std::alloc::Global;
@@ -39,7 +40,7 @@ impl Agent<'_> {
             rt,
             RESPONSES,
             self.responses,
-            Fault::File(FileFault::Unreadable(RESPONSES)),
+            Fault::Program(ProgramFault::File(FileFault::Unreadable(RESPONSES))),
         )
     }
 

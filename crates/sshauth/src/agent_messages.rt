@@ -5,7 +5,7 @@ ghost use Rattle.sshpacket.specs.declared.limits.TheConstants.{BLOB_LIMIT, PACKE
 
 use crate::agent_fault::AgentFault;
 use sshpacket::{BLOB_LIMIT, PACKET_LIMIT};
-use sshwire::{Reader, put_string, put_u32};
+use sshwire::{ByteBuffer, Reader};
 use std::alloc::Global;
 
 /// Numbers of messages: SSH_AGENT_FAILURE, SSH_AGENTC_SIGN_REQUEST and SSH_AGENT_SIGN_RESPONSE.
@@ -33,13 +33,13 @@ pub(crate) fn sign_request(
     requires blob { length blob.now ≤ BLOB_LIMIT }
     requires input { length input.now ≤ PACKET_LIMIT }
 {
-    let mut request = Vec::new(alloc);
-    put_u32(&mut request, (BESIDES + blob.len() + input.len()) as u32)?;
-    request.extend_from_slice(&[SIGN_REQUEST])?;
-    put_string(&mut request, blob)?;
-    put_string(&mut request, input)?;
-    put_u32(&mut request, flags_of(algorithm))?;
-    Ok(request)
+    let mut request = ByteBuffer::new(alloc);
+    request.put_u32((BESIDES + blob.len() + input.len()) as u32);
+    request.put(&[SIGN_REQUEST]);
+    request.put_string(blob);
+    request.put_string(input);
+    request.put_u32(flags_of(algorithm));
+    Ok(request.finish()?)
 }
 
 /// Whether a key and an input aren't too long for a request.

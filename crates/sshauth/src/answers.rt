@@ -5,7 +5,7 @@ use crate::asked_groups::AskedGroups;
 use crate::authorized::tell_line;
 use crate::fault::Fault;
 use crate::groups::{DIGITS, GROUP_LEN, asked_groups, asked_word};
-use crate::parts::{random, server_trust};
+use crate::parts::server_trust;
 use crate::report;
 use crate::settings::Settings;
 use crate::terminal::is_confirmed;
@@ -13,6 +13,7 @@ use crate::trust::{Trust, has_key};
 use base64::engine::general_purpose::STANDARD_NO_PAD;
 use sha2::{Digest, Sha256};
 use sshcore::Question;
+use sshprogram::{ProgramFault, random};
 use std::alloc::Global;
 
 /// Who answers: the program's files, and a person.
@@ -76,7 +77,7 @@ impl Answers<'_> {
     fn accepts_user(&self, rt: &HostRuntime, question: &Question<'_>) -> Result<bool, Fault> {
         match server_trust(rt, self.settings) {
             Ok(trust) => Ok(trust.decides(question)),
-            Err(Fault::Memory) => Err(Fault::Memory),
+            Err(fault @ Fault::Program(ProgramFault::Memory)) => Err(fault),
             Err(fault) => {
                 report::refused(rt, &fault);
                 Ok(false)
@@ -97,7 +98,7 @@ impl Answers<'_> {
         };
         match agent.sign(rt, algorithm, blob, input) {
             Ok(signature) => Ok(Some(signature)),
-            Err(AgentFault::Memory) => Err(Fault::Memory),
+            Err(AgentFault::Memory) => Err(Fault::Program(ProgramFault::Memory)),
             Err(fault) => {
                 let hash = hash_of(rt.alloc(), blob)?;
                 let text = format!(in rt.alloc();
@@ -112,7 +113,7 @@ impl Answers<'_> {
 
 impl Answers<'_> {
     /// Tells why a host key isn't trusted, about which nobody is asked.
-    fn tell_why(&self, rt: &HostRuntime, blob: &[u8]) -> Result<(), Fault> {
+    fn tell_why(&self, rt: &HostRuntime, blob: &[u8]) -> Result<(), ProgramFault> {
         let host = self.settings.host.unwrap_or("");
         if has_key(&self.trust.revoked, blob) {
             let text = format!(in rt.alloc(); "known_hosts revokes this key of {host}")?;
@@ -142,7 +143,7 @@ fn trusts(rt: &HostRuntime, settings: &Settings<'_>, blob: &[u8]) -> Result<bool
         return Ok(false);
     };
     let Some(groups) = asked_groups(&random::<DRAWN>(rt)?) else {
-        return Err(Fault::Random);
+        return Err(Fault::Program(ProgramFault::Random));
     };
     let question = question_of(rt.alloc(), host, &hash, groups)?;
     let word = asked_word(rt.alloc(), digits, groups)?;

@@ -3,11 +3,11 @@
 ghost use Rattle.std.specs.Prelude.{◌≡◌, IfOk, map};
 ghost use Rattle.sshauth.specs.KeyLines.{first_line, keys_in};
 
-use crate::fault::Fault;
 use crate::files::bytes_if_there;
 use crate::key_lines::{KeyLine, first_line, keys_in};
 use crate::report;
 use sshidentity::bytes_of;
+use sshprogram::ProgramFault;
 use std::alloc::Global;
 
 /// The keys of a file of authorized_keys: those of its lines `ssh-ed25519 KEY COMMENT` and `ssh-rsa KEY COMMENT`. A line with
@@ -16,7 +16,7 @@ pub(crate) fn authorized_keys(
     rt: &HostRuntime,
     option: &'static str,
     path: &str,
-) -> Result<Vec<Vec<u8>>, Fault> {
+) -> Result<Vec<Vec<u8>>, ProgramFault> {
     let bytes = bytes_of(rt, option, path)?;
     keys_in(rt.alloc(), option, KeyLine::Authorized, &bytes)
 }
@@ -40,7 +40,7 @@ pub(crate) fn host_keys_in(
     option: &'static str,
     text: &[u8],
     host: &[u8],
-) -> Result<HostKeys, Fault>
+) -> Result<HostKeys, ProgramFault>
     ensures keys { IfOk result (λ found. map (λ key. key.items) found.keys.items ≡ keys_in (KeyLine.Known host.entry) text.now) }
     ensures revoked { IfOk result (λ found. map (λ key. key.items) found.revoked.items ≡ keys_in KeyLine.Revoked text.now) }
     ensures known { IfOk result (λ found. found.known ≡ first_line (KeyLine.Known host.entry) text.now) }
@@ -65,7 +65,7 @@ pub(crate) fn known_hosts(
     option: &'static str,
     path: &str,
     host: &str,
-) -> Result<HostKeys, Fault> {
+) -> Result<HostKeys, ProgramFault> {
     let bytes = match bytes_if_there(rt, option, path)? {
         Some(bytes) => bytes,
         None => {
@@ -88,7 +88,7 @@ pub(crate) fn known_hosts(
 }
 
 /// Tells of a line of known_hosts, before which so many stand.
-pub(crate) fn tell_line(rt: &HostRuntime, before: usize, what: &str) -> Result<(), Fault> {
+pub(crate) fn tell_line(rt: &HostRuntime, before: usize, what: &str) -> Result<(), ProgramFault> {
     let number = before.saturating_add(1);
     report::tell(
         rt,

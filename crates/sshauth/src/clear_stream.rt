@@ -1,9 +1,9 @@
 //! What one side of a connection sends in clear.
 
-use crate::fault::Fault;
 use crate::refused::Refused;
 use sshmsg::{Message, MsgFault, SSH_MSG_KEXINIT, read_exchange};
 use sshpacket::{PacketFault, PacketReader, PacketStep};
+use sshprogram::ProgramFault;
 use sshsuite::DeployedSuite;
 use sshwire::{LineForm, PeerLineReader, PeerStep, PeerVersion, ReadBy, ShareForm, WireFault};
 use std::alloc::{AllocError, Global};
@@ -50,7 +50,7 @@ impl ClearStream {
     }
 
     /// Reads all of a piece.
-    pub(crate) fn receive_all(&mut self, alloc: Global, piece: &[u8]) -> Result<(), Fault> {
+    pub(crate) fn receive_all(&mut self, alloc: Global, piece: &[u8]) -> Result<(), ProgramFault> {
         let mut rest = piece;
         for _ in 0..u64::MAX {
             if rest.is_empty() {
@@ -64,7 +64,7 @@ impl ClearStream {
 
     /// Reads of a piece the lines up to the version line, or one packet, and answers how many bytes these are: all
     /// where more is to come, after NEWKEYS, and from a refusal on.
-    pub(crate) fn receive(&mut self, alloc: Global, piece: &[u8]) -> Result<usize, Fault> {
+    pub(crate) fn receive(&mut self, alloc: Global, piece: &[u8]) -> Result<usize, ProgramFault> {
         if self.sent.new_keys || self.sent.refused.is_some() {
             return Ok(piece.len());
         }
@@ -78,13 +78,13 @@ impl ClearStream {
                 Ok(used)
             }
             Ok(PacketStep::More) => Ok(piece.len()),
-            Err(PacketFault::Memory) => Err(Fault::Memory),
+            Err(PacketFault::Memory) => Err(ProgramFault::Memory),
             Err(_) => Ok(piece.len()),
         }
     }
 
     /// Reads lines, of which the first has begun with these bytes.
-    fn receive_lines(&mut self, begun: Vec<u8>, piece: &[u8]) -> Result<usize, Fault> {
+    fn receive_lines(&mut self, begun: Vec<u8>, piece: &[u8]) -> Result<usize, ProgramFault> {
         if self.lines.is_done() {
             return Ok(piece.len());
         }
@@ -94,7 +94,7 @@ impl ClearStream {
                 Ok(used)
             }
             Ok(PeerStep::More) => Ok(piece.len()),
-            Err(WireFault::Memory) => Err(Fault::Memory),
+            Err(WireFault::Memory) => Err(ProgramFault::Memory),
             Err(fault) => {
                 self.keep_line(begun, piece, fault)?;
                 Ok(piece.len())
@@ -103,7 +103,12 @@ impl ClearStream {
     }
 
     /// Keeps the line that is refused: the last of what was taken of the piece.
-    fn keep_line(&mut self, begun: Vec<u8>, piece: &[u8], fault: WireFault) -> Result<(), Fault> {
+    fn keep_line(
+        &mut self,
+        begun: Vec<u8>,
+        piece: &[u8],
+        fault: WireFault,
+    ) -> Result<(), ProgramFault> {
         let taken = piece.get(..self.lines.taken()).unwrap_or(piece);
         let line = last_line(begun, taken)?;
         self.sent.refused = Some(Refused::Line { fault, line });
@@ -126,7 +131,7 @@ fn last_line(begun: Vec<u8>, taken: &[u8]) -> Result<Vec<u8>, AllocError> {
 
 impl Sent {
     /// Keeps what is told of a payload. One that can't be read is for the endpoint to refuse; of these a KEXINIT is kept.
-    fn keep(&mut self, alloc: Global, payload: &[u8]) -> Result<(), Fault> {
+    fn keep(&mut self, alloc: Global, payload: &[u8]) -> Result<(), ProgramFault> {
         let read = read_exchange(alloc, payload, ShareForm::OctetString);
         let kept = self.keep_read(alloc, payload, &read);
         drop(read);
@@ -139,7 +144,7 @@ impl Sent {
         alloc: Global,
         payload: &[u8],
         read: &Result<Message<'_>, MsgFault>,
-    ) -> Result<(), Fault> {
+    ) -> Result<(), ProgramFault> {
         match read {
             Ok(Message::KexInit(_)) => {
                 if self.kexinit.is_none() {
@@ -153,7 +158,7 @@ impl Sent {
             Err(MsgFault::Malformed(SSH_MSG_KEXINIT)) => {
                 self.refused = Some(Refused::KexInit(Vec::from_slice(alloc, payload)?));
             }
-            Err(MsgFault::Memory) => return Err(Fault::Memory),
+            Err(MsgFault::Memory) => return Err(ProgramFault::Memory),
             _ => {}
         }
         Ok(())

@@ -2,6 +2,7 @@
 
 use crate::fault::Fault;
 use sshidentity::{FileFault, KeyFault, is_private};
+use sshprogram::ProgramFault;
 use std::fs;
 use std::io::ErrorKind;
 
@@ -10,12 +11,12 @@ pub(crate) fn bytes_if_there(
     rt: &HostRuntime,
     option: &'static str,
     path: &str,
-) -> Result<Option<Vec<u8>>, Fault> {
+) -> Result<Option<Vec<u8>>, ProgramFault> {
     match fs::read(rt, path) {
         Ok(bytes) => Ok(Some(bytes)),
         Err(error) if error.kind() == ErrorKind::NotFound => Ok(None),
-        Err(error) if error.kind() == ErrorKind::OutOfMemory => Err(Fault::Memory),
-        Err(_) => Err(Fault::File(FileFault::Unreadable(option))),
+        Err(error) if error.kind() == ErrorKind::OutOfMemory => Err(ProgramFault::Memory),
+        Err(_) => Err(ProgramFault::File(FileFault::Unreadable(option))),
     }
 }
 
@@ -29,7 +30,7 @@ pub(crate) fn check_private(
     match fs::metadata(rt, path) {
         Ok(metadata) if metadata.is_dir() => Err(otherwise),
         Ok(metadata) if !is_private(&metadata) => {
-            Err(Fault::File(FileFault::Key(option, KeyFault::Readable)))
+            Err(Fault::from(FileFault::Key(option, KeyFault::Readable)))
         }
         Ok(_) => Ok(()),
         Err(_) => Err(otherwise),

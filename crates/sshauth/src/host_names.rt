@@ -9,8 +9,8 @@ ghost use Rattle.sshauth.specs.HostNames.{excludes, hmac_sha1, includes, is_bar,
 ghost use Rattle.sshauth.specs.PatternRows.{first_row, next_row, row_after_any, row_after_one};
 
 use crate::base64_digits::base64_of;
-use crate::fault::Fault;
 use sha1::Sha1;
+use sshprogram::ProgramFault;
 use sshwire::Memory;
 use std::alloc::Global;
 
@@ -26,7 +26,7 @@ const SALT_LEN: usize = 20;
 /// Whether the names mean the host: hashed ones its name in lower case; patterns with commas between, of which one means
 /// it, and none of those with `!`.
 #[tactic(auto, unfolding(crate::specs::HostNames::mean))]
-pub(crate) fn mean(alloc: Global, names: &[u8], host: &[u8]) -> Result<bool, Fault>
+pub(crate) fn mean(alloc: Global, names: &[u8], host: &[u8]) -> Result<bool, ProgramFault>
     ensures { IfOk result (λ meant. meant ≡ mean names.now host.now) }
 {
     if names.starts_with(HASHED) {
@@ -37,7 +37,7 @@ pub(crate) fn mean(alloc: Global, names: &[u8], host: &[u8]) -> Result<bool, Fau
 
 /// Whether one of the patterns without `!` means the host.
 #[tactic(auto, using(crate::proofs::KeyLineLemmas::found_more))]
-fn has_included(alloc: Global, names: &[u8], host: &[u8]) -> Result<bool, Fault>
+fn has_included(alloc: Global, names: &[u8], host: &[u8]) -> Result<bool, ProgramFault>
     ensures { IfOk result (λ found. found ≡ list_any (includes host.now) (patterns_in names.now)) }
 {
     let mut found = false;
@@ -50,7 +50,7 @@ fn has_included(alloc: Global, names: &[u8], host: &[u8]) -> Result<bool, Fault>
 
 /// Whether one of those with `!` does.
 #[tactic(auto, using(crate::proofs::KeyLineLemmas::found_more))]
-fn has_excluded(alloc: Global, names: &[u8], host: &[u8]) -> Result<bool, Fault>
+fn has_excluded(alloc: Global, names: &[u8], host: &[u8]) -> Result<bool, ProgramFault>
     ensures { IfOk result (λ found. found ≡ list_any (excludes host.now) (patterns_in names.now)) }
 {
     let mut found = false;
@@ -69,7 +69,7 @@ fn is_either(one: bool, other: bool) -> bool
 }
 
 /// Whether it is a pattern without `!` that means the host.
-fn includes(alloc: Global, host: &[u8], pattern: &[u8]) -> Result<bool, Fault>
+fn includes(alloc: Global, host: &[u8], pattern: &[u8]) -> Result<bool, ProgramFault>
     ensures { IfOk result (λ found. found ≡ includes host.now pattern.now) }
 {
     if pattern.starts_with(b"!") {
@@ -79,7 +79,7 @@ fn includes(alloc: Global, host: &[u8], pattern: &[u8]) -> Result<bool, Fault>
 }
 
 /// Whether it is one with `!` that means the host after it.
-fn excludes(alloc: Global, host: &[u8], pattern: &[u8]) -> Result<bool, Fault>
+fn excludes(alloc: Global, host: &[u8], pattern: &[u8]) -> Result<bool, ProgramFault>
     ensures { IfOk result (λ found. found ≡ excludes host.now pattern.now) }
 {
     if pattern.starts_with(b"!") {
@@ -179,7 +179,7 @@ fn is_like(pattern: u8, byte: u8) -> bool
 }
 
 /// Whether a salt and a hash with a bar between, in base64, are those of the host.
-fn is_hashed_name(alloc: Global, hashed: &[u8], host: &[u8]) -> Result<bool, Fault>
+fn is_hashed_name(alloc: Global, hashed: &[u8], host: &[u8]) -> Result<bool, ProgramFault>
     ensures { IfOk result (λ found. found ≡ is_hashed_name hashed.now host.now) }
 {
     let (salt, hash) = cut_bar(hashed);
@@ -217,7 +217,7 @@ fn is_bar(byte: u8) -> bool
 }
 
 /// Whether the hash is that of the host, by this salt.
-fn is_hash_of(alloc: Global, salt: &[u8], hash: &[u8], host: &[u8]) -> Result<bool, Fault>
+fn is_hash_of(alloc: Global, salt: &[u8], hash: &[u8], host: &[u8]) -> Result<bool, ProgramFault>
     ensures { IfOk result (λ found. found ≡ is_hash_of salt.now hash.now host.now) }
 {
     if salt.len() != SALT_LEN {

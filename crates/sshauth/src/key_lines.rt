@@ -5,9 +5,9 @@ ghost use Rattle.std.specs.List.{slice_split};
 ghost use Rattle.sshauth.specs.KeyLines.{after_word, first_line, first_word, front_of, is_blank, is_line, key_at, key_in, key_text, keys_in, means, unblanked};
 
 use crate::base64_digits::base64_of;
-use crate::fault::Fault;
 use crate::host_names::mean;
 use sshidentity::FileFault;
+use sshprogram::ProgramFault;
 use std::alloc::Global;
 
 /// The words in front of a key.
@@ -45,7 +45,7 @@ pub(crate) fn keys_in(
     option: &'static str,
     kind: KeyLine<'_>,
     text: &[u8],
-) -> Result<Vec<Vec<u8>>, Fault>
+) -> Result<Vec<Vec<u8>>, ProgramFault>
     ensures { IfOk result (λ keys. map (λ key. key.items) keys.items ≡ keys_in kind.entry text.now) }
 {
     let mut keys = Vec::new(alloc);
@@ -63,7 +63,7 @@ pub(crate) fn first_line(
     alloc: Global,
     kind: KeyLine<'_>,
     text: &[u8],
-) -> Result<Option<usize>, Fault>
+) -> Result<Option<usize>, ProgramFault>
     ensures { IfOk result (λ found. found ≡ first_line kind.entry text.now) }
 {
     let marks = marks_of(alloc, kind, text)?;
@@ -78,7 +78,7 @@ fn first_mark(marks: &[bool]) -> Option<usize>
 }
 
 /// Of each line, whether it is one that is looked for.
-fn marks_of(alloc: Global, kind: KeyLine<'_>, text: &[u8]) -> Result<Vec<bool>, Fault>
+fn marks_of(alloc: Global, kind: KeyLine<'_>, text: &[u8]) -> Result<Vec<bool>, ProgramFault>
     ensures { IfOk result (λ marks. marks.items ≡ map (is_line kind.entry) (slice_split (λ byte. byte == 10) text.now)) }
 {
     let mut marks = Vec::new(alloc);
@@ -89,7 +89,7 @@ fn marks_of(alloc: Global, kind: KeyLine<'_>, text: &[u8]) -> Result<Vec<bool>, 
 }
 
 /// Whether a line is one that is looked for.
-fn is_line(alloc: Global, kind: KeyLine<'_>, line: &[u8]) -> Result<bool, Fault>
+fn is_line(alloc: Global, kind: KeyLine<'_>, line: &[u8]) -> Result<bool, ProgramFault>
     ensures { IfOk result (λ found. found ≡ is_line kind.entry line.now) }
 {
     Ok(key_text(alloc, kind, line)?.is_some())
@@ -102,7 +102,7 @@ fn key_in(
     option: &'static str,
     kind: KeyLine<'_>,
     line: &[u8],
-) -> Result<Option<Vec<u8>>, Fault>
+) -> Result<Option<Vec<u8>>, ProgramFault>
     ensures { IfOk result (λ found. option_map (λ key. key.items) found ≡ key_in kind.entry line.now) }
 {
     match key_text(alloc, kind, line)? {
@@ -112,7 +112,11 @@ fn key_in(
 }
 
 /// What stands in a line where a key has to, if the line is looked for.
-fn key_text<'a>(alloc: Global, kind: KeyLine<'_>, line: &'a [u8]) -> Result<Option<&'a [u8]>, Fault>
+fn key_text<'a>(
+    alloc: Global,
+    kind: KeyLine<'_>,
+    line: &'a [u8],
+) -> Result<Option<&'a [u8]>, ProgramFault>
     ensures { IfOk result (λ found. option_map (λ text. text.now) found ≡ key_text kind.entry line.now) }
 {
     let (word, after) = cut_word(line);
@@ -128,7 +132,7 @@ fn key_text<'a>(alloc: Global, kind: KeyLine<'_>, line: &'a [u8]) -> Result<Opti
 }
 
 /// Whether a word is names that mean the host. A mark, a comment and no word mean none.
-fn means(alloc: Global, word: &[u8], host: &[u8]) -> Result<bool, Fault>
+fn means(alloc: Global, word: &[u8], host: &[u8]) -> Result<bool, ProgramFault>
     ensures { IfOk result (λ found. found ≡ means word.now host.now) }
 {
     if word.is_empty() || word.starts_with(b"#") || word.starts_with(b"@") {
@@ -139,7 +143,7 @@ fn means(alloc: Global, word: &[u8], host: &[u8]) -> Result<bool, Fault>
 
 /// The key at the front of a text, where a known kind stands there.
 #[tactic(auto, unfolding(crate::specs::KeyLines::key_at))]
-fn key_at(alloc: Global, option: &'static str, text: &[u8]) -> Result<Option<Vec<u8>>, Fault>
+fn key_at(alloc: Global, option: &'static str, text: &[u8]) -> Result<Option<Vec<u8>>, ProgramFault>
     ensures { IfOk result (λ found. option_map (λ key. key.items) found ≡ key_at text.now) }
 {
     let (kind, after) = cut_word(text);
@@ -148,7 +152,7 @@ fn key_at(alloc: Global, option: &'static str, text: &[u8]) -> Result<Option<Vec
     };
     match base64_of(alloc, cut_word(after).0)? {
         Some(key) if key.starts_with(front) => Ok(Some(key)),
-        _ => Err(Fault::File(FileFault::Form(option))),
+        _ => Err(ProgramFault::File(FileFault::Form(option))),
     }
 }
 

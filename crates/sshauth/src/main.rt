@@ -35,20 +35,15 @@ mod talk;
 mod terminal;
 mod trust;
 mod usage;
-mod word_fault;
 mod words;
 
 use crate::fault::Fault;
 use crate::settings::{Job, Settings};
 use crate::usage::USAGE;
-use crate::word_fault::WordFault;
-use crate::words::{Asked, read_words};
-use std::env;
+use crate::words::read_words;
+use sshprogram::words_of;
 use std::io::Write;
 use std::process::ExitCode;
-
-/// The status of words that are refused.
-const REFUSED: u8 = 2;
 
 fn main(rt: HostRuntime) -> ExitCode {
     match run(&rt) {
@@ -64,21 +59,8 @@ fn main(rt: HostRuntime) -> ExitCode {
 fn run(rt: &HostRuntime) -> Result<u8, Fault> {
     let words = words_of(rt)?;
     match read_words(rt.alloc(), &words) {
-        Ok(Asked::Work(settings)) => work(rt, &settings),
-        Ok(Asked::Usage) => {
-            let written = rt.stdout().write_all(USAGE.as_bytes());
-            written.map_err(|_| Fault::Write)?;
-            Ok(0)
-        }
-        Ok(Asked::Nothing) => {
-            let _ = rt.stderr().write_all(USAGE.as_bytes());
-            Ok(REFUSED)
-        }
-        Err(WordFault::Memory) => Err(Fault::Memory),
-        Err(fault) => {
-            let _ = writeln!(rt.stderr(), "sshauth: {fault}");
-            Ok(REFUSED)
-        }
+        Ok(settings) => work(rt, &settings),
+        Err(no_work) => Ok(no_work.tell(rt, "sshauth", USAGE)?),
     }
 }
 
@@ -89,16 +71,4 @@ fn work(rt: &HostRuntime, settings: &Settings<'_>) -> Result<u8, Fault> {
         Job::Server => talk::server(rt, settings),
         Job::Probe => probe::probe(rt, settings),
     }
-}
-
-/// The words after the program's name.
-fn words_of(rt: &HostRuntime) -> Result<Vec<String>, Fault> {
-    let mut words = Vec::new(rt.alloc());
-    let Ok(all) = env::args(rt) else {
-        return Err(Fault::NotText);
-    };
-    for word in all.skip(1) {
-        words.push(word)?;
-    }
-    Ok(words)
 }

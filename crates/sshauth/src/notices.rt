@@ -1,10 +1,9 @@
 //! What the peer tells people, kept as text until it is told.
 
 use sshcore::{Decisions, Listener, Notice, Proof};
-use sshwire::{Memory, NameList};
+use sshwire::{Memory, NameList, TextBuffer};
 use std::alloc::{AllocError, Global};
 use std::cell::RefCell;
-use std::fmt::Write;
 
 /// What the peer has told people, a line for each: `line TEXT` before its version line, `banner TEXT` for each line of
 /// one, `debug TEXT`, `disconnect TEXT`, and after a FAILURE `methods NAMES` for those that can continue, or `partial success, methods NAMES`.
@@ -93,82 +92,71 @@ impl<D: Decisions> Decisions for Listening<'_, D> {
 
 /// The lines of a notice.
 fn text_of(alloc: Global, notice: Notice<'_>) -> Result<String, AllocError> {
-    let mut lines = String::new(alloc);
+    let mut lines = TextBuffer::new(alloc);
     match notice {
         Notice::Disconnect { description, .. } => {
-            put_lines(&mut lines, "disconnect", description)?;
+            put_lines(&mut lines, "disconnect", description);
         }
-        Notice::Line { text } => put_lines(&mut lines, "line", text)?,
-        Notice::Debug { text, .. } => put_lines(&mut lines, "debug", text)?,
-        Notice::Banner { text, .. } => put_lines(&mut lines, "banner", text)?,
+        Notice::Line { text } => put_lines(&mut lines, "line", text),
+        Notice::Debug { text, .. } => put_lines(&mut lines, "debug", text),
+        Notice::Banner { text, .. } => put_lines(&mut lines, "banner", text),
         Notice::Failure {
             methods,
             partial_success,
-        } => put_methods(&mut lines, methods, partial_success)?,
+        } => put_methods(&mut lines, methods, partial_success),
     }
-    Ok(lines)
+    lines.finish()
 }
 
 /// Puts a line for each line of the text that isn't empty.
-fn put_lines(lines: &mut String, word: &str, text: &[u8]) -> Result<(), AllocError> {
+fn put_lines(lines: &mut TextBuffer, word: &str, text: &[u8]) {
     for line in text.split(|byte| *byte == b'\n') {
         let line = line.strip_suffix(b"\r").unwrap_or(line);
         if !line.is_empty() {
-            put_line(lines, word, line)?;
+            put_line(lines, word, line);
         }
     }
-    Ok(())
 }
 
 /// Puts a line.
-pub(crate) fn put_line(lines: &mut String, word: &str, text: &[u8]) -> Result<(), AllocError> {
-    write!(lines, "{word} ")?;
-    put_shown(lines, text)?;
-    lines.push('\n')
+pub(crate) fn put_line(lines: &mut TextBuffer, word: &str, text: &[u8]) {
+    write!(lines, "{word} ");
+    put_shown(lines, text);
+    lines.push('\n');
 }
 
 /// Puts bytes of a peer: one that is no printable character of ASCII stands as `\xNN`.
-pub(crate) fn put_shown(lines: &mut String, text: &[u8]) -> Result<(), AllocError> {
+pub(crate) fn put_shown(lines: &mut TextBuffer, text: &[u8]) {
     for byte in text {
         match byte {
-            b' '..=b'~' => lines.push(char::from(*byte))?,
-            _ => put_number(lines, *byte)?,
+            b' '..=b'~' => lines.push(char::from(*byte)),
+            _ => write!(lines, "\\x{byte:02x}"),
         }
     }
-    Ok(())
 }
 
 /// Puts bytes of a peer between quotes. A quote or a backslash among them stands as `\xNN` too, so the text gives each
 /// byte.
-pub(crate) fn put_quoted(lines: &mut String, text: &[u8]) -> Result<(), AllocError> {
-    lines.push('"')?;
+pub(crate) fn put_quoted(lines: &mut TextBuffer, text: &[u8]) {
+    lines.push('"');
     for byte in text {
         match byte {
-            b' ' | b'!' | b'#'..=b'[' | b']'..=b'~' => lines.push(char::from(*byte))?,
-            _ => put_number(lines, *byte)?,
+            b' ' | b'!' | b'#'..=b'[' | b']'..=b'~' => lines.push(char::from(*byte)),
+            _ => write!(lines, "\\x{byte:02x}"),
         }
     }
-    lines.push('"')
-}
-
-/// Puts a byte as `\xNN`.
-fn put_number(lines: &mut String, byte: u8) -> Result<(), AllocError> {
-    write!(lines, "\\x{byte:02x}")
+    lines.push('"');
 }
 
 /// Puts the names of the methods that can continue, and whether the request was successful as one of several.
-fn put_methods(
-    lines: &mut String,
-    methods: &NameList,
-    partial_success: bool,
-) -> Result<(), AllocError> {
+fn put_methods(lines: &mut TextBuffer, methods: &NameList, partial_success: bool) {
     if partial_success {
-        lines.push_str("partial success, ")?;
+        lines.push_str("partial success, ");
     }
-    lines.push_str("methods")?;
+    lines.push_str("methods");
     for (place, name) in methods.names().enumerate() {
         let sign = if place == 0 { ' ' } else { ',' };
-        write!(lines, "{sign}{name}")?;
+        write!(lines, "{sign}{name}");
     }
-    lines.push('\n')
+    lines.push('\n');
 }

@@ -5,13 +5,13 @@ ghost use Rattle.sshwire.specs.Types.{IsName};
 ghost use Rattle.sshsuite.specs.Deployed.{deployed};
 
 use crate::base64_digits::base64_of;
-use crate::fault::Fault;
 use crate::key_lines::cut_word;
 use crate::parts::ALGORITHM;
 use crate::settings::Settings;
 use sshcore::PRIVATE_KEY_LIMIT;
 use sshidentity::{FileFault, IdentityFault, KeyFault, bytes_of, private_key, text_in};
 use sshpacket::Suite;
+use sshprogram::ProgramFault;
 use sshsuite::DeployedSuite;
 use sshwire::{Reader, as_name};
 use std::alloc::Global;
@@ -30,7 +30,7 @@ pub(crate) fn own_key(
     settings: &Settings<'_>,
     option: &'static str,
     path: &str,
-) -> Result<OwnKey, Fault> {
+) -> Result<OwnKey, ProgramFault> {
     let file = bytes_of(rt, option, path)?;
     let text = text_in(option, &file)?;
     let found = match private_key(rt, option, path, text)? {
@@ -44,11 +44,11 @@ pub(crate) fn own_key(
         )?,
         Err(fault) => Err(fault),
     };
-    found.map_err(|fault| Fault::File(FileFault::Key(option, fault)))
+    found.map_err(|fault| ProgramFault::File(FileFault::Key(option, fault)))
 }
 
 /// The public key of the one line that the text is, or why it has none. It is none of the suite's private keys.
-fn public_key_in(alloc: Global, text: &str) -> Result<Result<OwnKey, KeyFault>, Fault>
+fn public_key_in(alloc: Global, text: &str) -> Result<Result<OwnKey, KeyFault>, ProgramFault>
     ensures elsewhere { IfOk result (λ found. IfOk found (λ key. deployed.holds (string_bytes key.algorithm) key.bytes.items ≡ false)) }
 {
     let line = text.trim();

@@ -11,9 +11,9 @@ use sshcore::{
     ServerConfig, ServerParts, SideParts, SuiteFault,
 };
 use sshidentity::{bytes_of, first_line};
+use sshprogram::random;
 use sshsuite::DeployedSuite;
 use std::alloc::Global;
-use std::random::RandomSource;
 
 /// The one service (RFC 4254).
 const SERVICE: &str = "ssh-connection";
@@ -265,13 +265,4 @@ pub(crate) fn draw(rt: &HostRuntime) -> Result<Draws, Fault> {
         exchange_random: random(rt)?,
         padding_seed: random(rt)?,
     })
-}
-
-/// Random bytes.
-pub(crate) fn random<const N: usize>(rt: &HostRuntime) -> Result<[u8; N], Fault> {
-    let mut bytes = [0; N];
-    match rt.fill_bytes(&mut bytes) {
-        Ok(()) => Ok(bytes),
-        Err(_) => Err(Fault::Random),
-    }
 }

@@ -13,6 +13,7 @@ use crate::parts::{client_config, draw};
 use crate::settings::Settings;
 use crate::talk::{CHUNK, receive, send};
 use sshcore::{ClientConfig, Decisions, End, Endpoint, Proof};
+use sshprogram::ProgramFault;
 use sshsuite::DeployedSuite;
 use sshwire::{Memory, OTHER_LINE_LIMIT};
 use std::alloc::Global;
@@ -153,7 +154,7 @@ impl Looked {
         rt: &HostRuntime,
         settings: &Settings<'_>,
         notices: &Notices,
-    ) -> Result<(), Fault> {
+    ) -> Result<(), ProgramFault> {
         let notices = notices.taken();
         let findings = Findings {
             host: settings.host.unwrap_or(""),
@@ -174,16 +175,18 @@ impl Looked {
         settings: &Settings<'_>,
         notices: &Notices,
         end: &End,
-    ) -> Result<(), Fault> {
+    ) -> Result<(), ProgramFault> {
         self.tell(rt, settings, notices)?;
         let line = end_line(rt.alloc(), end, self.came)?;
         self.write(rt, &line)
     }
 
     /// Writes lines to the report, or where none is named to standard error.
-    fn write(&mut self, rt: &HostRuntime, lines: &str) -> Result<(), Fault> {
+    fn write(&mut self, rt: &HostRuntime, lines: &str) -> Result<(), ProgramFault> {
         match &mut self.report {
-            Some(file) => file.write_all(lines.as_bytes()).map_err(|_| Fault::Write),
+            Some(file) => file
+                .write_all(lines.as_bytes())
+                .map_err(|_| ProgramFault::Write),
             None => {
                 let _ = rt.stderr().write_all(lines.as_bytes());
                 Ok(())

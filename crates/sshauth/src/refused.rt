@@ -1,9 +1,7 @@
 //! What a server has sent in clear that is refused, as text.
 
 use crate::notices::put_quoted;
-use sshwire::{NAME_LIMIT, Reader, WireFault, as_name};
-use std::alloc::AllocError;
-use std::fmt::Write;
+use sshwire::{NAME_LIMIT, Reader, TextBuffer, WireFault, as_name};
 
 /// The lists of a KEXINIT in their order, by the names that they have in RFC 4253 section 7.1.
 pub(crate) const LISTS: &[&str] = &[
@@ -47,7 +45,7 @@ struct Flaw<'a> {
 }
 
 /// Puts a line of what is refused: why, and its bytes.
-pub(crate) fn put_refused(text: &mut String, refused: &Refused) -> Result<(), AllocError> {
+pub(crate) fn put_refused(text: &mut TextBuffer, refused: &Refused) {
     match refused {
         Refused::Line { fault, line } => put_refused_line(text, *fault, line),
         Refused::KexInit(payload) => put_refused_kexinit(text, payload),
@@ -55,27 +53,27 @@ pub(crate) fn put_refused(text: &mut String, refused: &Refused) -> Result<(), Al
 }
 
 /// Puts why a line is refused, and the line.
-fn put_refused_line(text: &mut String, fault: WireFault, line: &[u8]) -> Result<(), AllocError> {
-    text.push_str("# refused_line ")?;
+fn put_refused_line(text: &mut TextBuffer, fault: WireFault, line: &[u8]) {
+    text.push_str("# refused_line ");
     match (fault, line.last()) {
-        (WireFault::Line, Some(0)) => text.push_str("a NUL in a line")?,
-        _ => write!(text, "{fault}")?,
+        (WireFault::Line, Some(0)) => text.push_str("a NUL in a line"),
+        _ => write!(text, "{fault}"),
     }
-    text.push_str(": ")?;
-    put_quoted(text, line)?;
-    text.push('\n')
+    text.push_str(": ");
+    put_quoted(text, line);
+    text.push('\n');
 }
 
 /// Puts why a KEXINIT is refused, and the bytes of the part that is refused: the first of them where they are many.
-fn put_refused_kexinit(text: &mut String, payload: &[u8]) -> Result<(), AllocError> {
+fn put_refused_kexinit(text: &mut TextBuffer, payload: &[u8]) {
     let Flaw { why, part, bytes } = flaw_in(payload);
     let shown = bytes.get(..SHOWN).unwrap_or(bytes);
-    write!(text, "# refused_kexinit {why} {part}: ")?;
-    put_quoted(text, shown)?;
+    write!(text, "# refused_kexinit {why} {part}: ");
+    put_quoted(text, shown);
     if shown.len() < bytes.len() {
-        write!(text, " (the first {SHOWN} of its {} bytes)", bytes.len())?;
+        write!(text, " (the first {SHOWN} of its {} bytes)", bytes.len());
     }
-    text.push('\n')
+    text.push('\n');
 }
 
 /// The first part of a KEXINIT's payload that isn't as RFC 4253 section 7.1 has it.

@@ -1,8 +1,8 @@
 //! What a remote command writes, told with a mark in front of each line.
 
-use crate::fault::Fault;
 use crate::notices::put_shown;
-use std::alloc::AllocError;
+use sshprogram::ProgramFault;
+use sshwire::TextBuffer;
 use std::io::Write;
 
 /// To which of its outputs a command writes.
@@ -32,14 +32,14 @@ impl RemoteOutput {
         rt: &HostRuntime,
         stream: Stream,
         bytes: &[u8],
-    ) -> Result<(), Fault> {
-        let mut text = String::new(rt.alloc());
+    ) -> Result<(), ProgramFault> {
+        let mut text = TextBuffer::new(rt.alloc());
         if self.is_of_other(stream) {
-            text.push('\n')?;
+            text.push('\n');
             self.unended = None;
         }
-        self.put(&mut text, stream, bytes)?;
-        let _ = rt.stderr().write_all(text.as_bytes());
+        self.put(&mut text, stream, bytes);
+        let _ = rt.stderr().write_all(text.finish()?.as_bytes());
         Ok(())
     }
 
@@ -60,32 +60,26 @@ impl RemoteOutput {
     }
 
     /// Puts the lines of these bytes.
-    fn put(&mut self, text: &mut String, stream: Stream, bytes: &[u8]) -> Result<(), AllocError> {
+    fn put(&mut self, text: &mut TextBuffer, stream: Stream, bytes: &[u8]) {
         for (place, line) in bytes.split(|byte| *byte == b'\n').enumerate() {
             if place > 0 {
-                self.put_piece(text, stream, &[])?;
-                text.push('\n')?;
+                self.put_piece(text, stream, &[]);
+                text.push('\n');
                 self.unended = None;
             }
             if !line.is_empty() {
-                self.put_piece(text, stream, line)?;
+                self.put_piece(text, stream, line);
             }
         }
-        Ok(())
     }
 
     /// Puts a piece of a line, at its front with the mark.
-    fn put_piece(
-        &mut self,
-        text: &mut String,
-        stream: Stream,
-        piece: &[u8],
-    ) -> Result<(), AllocError> {
+    fn put_piece(&mut self, text: &mut TextBuffer, stream: Stream, piece: &[u8]) {
         if self.unended.is_none() {
-            text.push_str(mark_of(stream))?;
+            text.push_str(mark_of(stream));
             self.unended = Some(stream);
         }
-        put_shown(text, piece)
+        put_shown(text, piece);
     }
 }
 

@@ -4,6 +4,8 @@ use crate::fault::Fault;
 use crate::notices::{Notices, put_line};
 use sshcore::{Accepted, End, Session};
 use sshneg::NoCommon;
+use sshprogram::ProgramFault;
+use sshwire::TextBuffer;
 use std::fmt;
 use std::io::Write;
 
@@ -88,9 +90,9 @@ pub(crate) fn tell_number(rt: &HostRuntime, text: &str, number: u32) {
 }
 
 /// Prints a line with bytes of the peer.
-pub(crate) fn tell_shown(rt: &HostRuntime, word: &str, bytes: &[u8]) -> Result<(), Fault> {
-    let mut line = String::new(rt.alloc());
-    put_line(&mut line, word, bytes)?;
-    let _ = rt.stderr().write_all(line.as_bytes());
+pub(crate) fn tell_shown(rt: &HostRuntime, word: &str, bytes: &[u8]) -> Result<(), ProgramFault> {
+    let mut line = TextBuffer::new(rt.alloc());
+    put_line(&mut line, word, bytes);
+    let _ = rt.stderr().write_all(line.finish()?.as_bytes());
     Ok(())
 }

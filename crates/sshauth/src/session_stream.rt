@@ -1,10 +1,10 @@
 //! Payloads after authentication, over standard input and output.
 
 use crate::fault::Fault;
-use crate::parts::random;
 use crate::talk::{CHUNK, receive, send};
 use sshcore::{Link, Session};
 use sshpacket::PacketStep;
+use sshprogram::random;
 use sshsuite::DeployedSuite;
 
 /// A session that goes on, and what came of it.
@@ -34,7 +34,7 @@ impl SessionStream {
     pub(crate) fn send(&mut self, rt: &HostRuntime, payload: &[u8]) -> Result<(), Fault> {
         let mut packet = Vec::new(rt.alloc());
         self.link.seal(&DeployedSuite, payload, &mut packet)?;
-        send(rt, &packet)
+        Ok(send(rt, &packet)?)
     }
 
     /// The next payload; none where the input has ended.

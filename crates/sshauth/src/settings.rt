@@ -12,17 +12,6 @@ pub(crate) enum Job {
     Probe,
 }
 
-impl Job {
-    /// The word that names it.
-    pub(crate) fn name(self) -> &'static str {
-        match self {
-            Job::Client => "client",
-            Job::Server => "server",
-            Job::Probe => "probe",
-        }
-    }
-}
-
 /// What the words say, each as it stands.
 #[derive(Clone, Copy)]
 pub(crate) struct Settings<'a> {

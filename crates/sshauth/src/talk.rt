@@ -8,6 +8,7 @@ use crate::parts::{client_config, client_trust, draw, server_config, server_trus
 use crate::settings::Settings;
 use crate::{command, greeter, report};
 use sshcore::{AskingEndpoint, ClientConfig, End, Fed, ServerConfig, Session};
+use sshprogram::ProgramFault;
 use sshsuite::DeployedSuite;
 use sshwire::Memory;
 use std::io::{Read, Write};
@@ -182,17 +183,17 @@ fn more(rt: &HostRuntime, endpoint: &mut SuiteEndpoint<'_>) -> Result<Vec<u8>, F
 }
 
 /// Writes the bytes.
-pub(crate) fn send(rt: &HostRuntime, bytes: &[u8]) -> Result<(), Fault> {
+pub(crate) fn send(rt: &HostRuntime, bytes: &[u8]) -> Result<(), ProgramFault> {
     let mut output = rt.stdout();
     match (output.write_all(bytes), output.flush()) {
         (Ok(()), Ok(())) => Ok(()),
-        _ => Err(Fault::Write),
+        _ => Err(ProgramFault::Write),
     }
 }
 
 /// Reads bytes, and answers how many: none where the input has ended.
-pub(crate) fn receive(rt: &HostRuntime, chunk: &mut [u8; CHUNK]) -> Result<usize, Fault> {
+pub(crate) fn receive(rt: &HostRuntime, chunk: &mut [u8; CHUNK]) -> Result<usize, ProgramFault> {
     rt.stdin()
         .read(chunk.as_mut_slice())
-        .map_err(|_| Fault::Read)
+        .map_err(|_| ProgramFault::Read)
 }

@@ -3,60 +3,64 @@
 use crate::agent::{Agent, REQUESTS, RESPONSES};
 use crate::channel::COMMAND_LIMIT;
 use crate::settings::{Job, Settings};
-use crate::word_fault::WordFault;
 use sshcore::PeerReading;
+use sshprogram::{NoWork, Options, Syntax, WordFault, first_word};
 use std::alloc::Global;
 
-/// What the words ask for.
-#[derive(Clone, Copy)]
-pub(crate) enum Asked<'a> {
-    /// Nothing: there are no words.
-    Nothing,
-    /// How the words go.
-    Usage,
-    /// A job.
-    Work(Settings<'a>),
-}
+/// The words of a client.
+const CLIENT: Syntax = Syntax {
+    job: "a client",
+    options: &[
+        "user",
+        "strict",
+        "kex",
+        "cipher",
+        "mac",
+        "password-file",
+        "identity",
+        REQUESTS,
+        RESPONSES,
+        "known-hosts",
+        "host",
+        "reading",
+        "guess",
+        "exec",
+    ],
+    flags: &[],
+    takes_subject: false,
+};
 
-/// An option, without the two minus signs in front, and its value.
-#[derive(Clone, Copy)]
-struct Given<'a> {
-    option: &'a str,
-    value: &'a str,
-}
+/// Those of a probe.
+const PROBE: Syntax = Syntax {
+    job: "a probe",
+    options: &["user", "strict", "kex", "cipher", "mac", "host", "report"],
+    flags: &[],
+    takes_subject: false,
+};
 
-/// The options that all have, each with a value.
-const COMMON: &[&str] = &["user", "strict", "kex", "cipher", "mac"];
-
-/// Those of a client besides.
-const CLIENT: &[&str] = &[
-    "password-file",
-    "identity",
-    REQUESTS,
-    RESPONSES,
-    "known-hosts",
-    "host",
-    "reading",
-    "guess",
-    "exec",
-];
-
-/// Those of a probe besides.
-const PROBE: &[&str] = &["host", "report"];
-
-/// Those of a server besides.
-const SERVER: &[&str] = &[
-    "password-file",
-    "host-key",
-    REQUESTS,
-    RESPONSES,
-    "authorized-keys",
-    "banner",
-    "methods",
-    "required",
-    "tries",
-    "reading",
-];
+/// Those of a server.
+const SERVER: Syntax = Syntax {
+    job: "a server",
+    options: &[
+        "user",
+        "strict",
+        "kex",
+        "cipher",
+        "mac",
+        "password-file",
+        "host-key",
+        REQUESTS,
+        RESPONSES,
+        "authorized-keys",
+        "banner",
+        "methods",
+        "required",
+        "tries",
+        "reading",
+    ],
+    flags: &[],
+    takes_subject: false,
+};
 
 /// Methods of key exchange where no word names others: one that holds against a quantum computer too, both names of one that peers have
 /// had for long, and one that older peers have.
@@ -72,189 +76,74 @@ const CIPHERS: &str =
 const MACS: &str =
     "hmac-sha2-256-etm@openssh.com,hmac-sha2-512-etm@openssh.com,hmac-sha2-256,hmac-sha2-512";
 
-/// What the words ask for, or the first word that is refused.
+/// What the words ask for, or why they ask for nothing.
 pub(crate) fn read_words<'a>(
     alloc: Global,
     words: &'a [String],
-) -> Result<Asked<'a>, WordFault<'a>> {
-    let Some((first, rest)) = words.split_first() else {
-        return Ok(Asked::Nothing);
-    };
-    if is_help(first) {
-        return Ok(Asked::Usage);
-    }
-    let Some(job) = job_of(first) else {
-        return Err(WordFault::Job(first));
-    };
-    if rest.iter().any(|word| is_help(word)) {
-        return Ok(Asked::Usage);
-    }
-    let mut given = Vec::new(alloc);
-    collect(job, rest, &mut given)?;
-    Ok(Asked::Work(settings_of(job, &given)?))
-}
-
-/// Whether the word asks for the usage.
-fn is_help(word: &str) -> bool {
-    word == "--help" || word == "-h"
-}
-
-/// The job that a word names.
-fn job_of(word: &str) -> Option<Job> {
-    match word {
-        "client" => Some(Job::Client),
-        "server" => Some(Job::Server),
-        "probe" => Some(Job::Probe),
-        _ => None,
-    }
-}
-
-/// Collects the options of a job, each with its value: the next word, or what stands after `=`.
-fn collect<'a>(
-    job: Job,
-    words: &'a [String],
-    given: &mut Vec<Given<'a>>,
-) -> Result<(), WordFault<'a>> {
-    let mut rest = words;
-    for _ in 0..usize::MAX {
-        let Some((word, after)) = rest.split_first() else {
-            break;
-        };
-        let Some(name) = word.strip_prefix("--") else {
-            return Err(WordFault::Unknown { job, word });
-        };
-        match name.split_once('=') {
-            Some((option, value)) => {
-                put(job, word, Given { option, value }, given)?;
-                rest = after;
-            }
-            None => {
-                let (value, others) = value_in(job, word, name, after)?;
-                let option = name;
-                put(job, word, Given { option, value }, given)?;
-                rest = others;
-            }
+) -> Result<Settings<'a>, NoWork<'a>> {
+    let (first, rest) = first_word(words)?;
+    let (job, syntax) = match first {
+        "client" => (Job::Client, CLIENT),
+        "server" => (Job::Server, SERVER),
+        "probe" => (Job::Probe, PROBE),
+        word => {
+            let names = "client, server or probe";
+            return Err(NoWork::Refused(WordFault::NoneOf { word, names }));
         }
-    }
-    Ok(())
-}
-
-/// The value that follows the option, and the words after it. An option is no value.
-fn value_in<'a>(
-    job: Job,
-    word: &'a str,
-    name: &str,
-    after: &'a [String],
-) -> Result<(&'a str, &'a [String]), WordFault<'a>> {
-    if !is_option(job, name) {
-        return Err(WordFault::Unknown { job, word });
-    }
-    match after.split_first() {
-        Some((value, others)) if !value.starts_with("--") => Ok((value, others)),
-        _ => Err(WordFault::NoValue(word)),
-    }
-}
-
-/// Puts an option that the job has, and that didn't stand before.
-fn put<'a>(
-    job: Job,
-    word: &'a str,
-    one: Given<'a>,
-    given: &mut Vec<Given<'a>>,
-) -> Result<(), WordFault<'a>> {
-    if !is_option(job, one.option) {
-        return Err(WordFault::Unknown { job, word });
-    }
-    if value_of(given, one.option).is_some() {
-        return Err(WordFault::Twice(one.option));
-    }
-    given.push(one).map_err(|_| WordFault::Memory)
-}
-
-/// Whether the job has this option.
-fn is_option(job: Job, name: &str) -> bool {
-    let own = match job {
-        Job::Client => CLIENT,
-        Job::Server => SERVER,
-        Job::Probe => PROBE,
     };
-    COMMON.iter().any(|option| *option == name) || own.iter().any(|option| *option == name)
-}
-
-/// The value of an option, if it was given.
-fn value_of<'a>(given: &[Given<'a>], option: &str) -> Option<&'a str> {
-    for one in given {
-        if one.option == option {
-            return Some(one.value);
-        }
-    }
-    None
+    let options = Options::read(alloc, rest, syntax)?;
+    Ok(settings_of(job, &options)?)
 }
 
 /// What the options say. One that the job doesn't have has no value.
-fn settings_of<'a>(job: Job, given: &[Given<'a>]) -> Result<Settings<'a>, WordFault<'a>> {
-    needs(job, given)?;
-    let tries = tries_of(value_of(given, "tries"))?;
-    let strict = flag_of("strict", value_of(given, "strict"), true)?;
-    let reading = reading_of("reading", value_of(given, "reading"))?;
-    let guess = flag_of("guess", value_of(given, "guess"), false)?;
-    let kex = known("kex", value_of(given, "kex").unwrap_or(KEX), KEX)?;
-    let cipher = known(
-        "cipher",
-        value_of(given, "cipher").unwrap_or(CIPHERS),
-        CIPHERS,
-    )?;
-    let mac = known("mac", value_of(given, "mac").unwrap_or(MACS), MACS)?;
-    let exec = short("exec", value_of(given, "exec"))?;
-    let agent = agent_of(job, given)?;
+fn settings_of<'a>(job: Job, options: &Options<'a>) -> Result<Settings<'a>, WordFault<'a>> {
+    check_needed(job, options)?;
     Ok(Settings {
         role: job,
-        user: value_of(given, "user").unwrap_or("nobody"),
-        identity: value_of(given, "identity"),
-        password_file: value_of(given, "password-file"),
-        known_hosts: value_of(given, "known-hosts"),
-        host: value_of(given, "host"),
-        host_key: value_of(given, "host-key"),
-        authorized_keys: value_of(given, "authorized-keys"),
-        banner: value_of(given, "banner"),
-        methods: value_of(given, "methods").unwrap_or("publickey,password"),
-        required: value_of(given, "required"),
-        tries,
-        strict,
-        reading,
-        guess,
-        kex,
-        cipher,
-        mac,
-        exec,
-        report: value_of(given, "report"),
-        agent,
+        tries: tries_of(options.value("tries"))?,
+        strict: options.yes_or_no("strict", true)?,
+        reading: reading_of(options.value("reading"))?,
+        guess: options.yes_or_no("guess", false)?,
+        kex: options.names("kex", KEX, KEX)?,
+        cipher: options.names("cipher", CIPHERS, CIPHERS)?,
+        mac: options.names("mac", MACS, MACS)?,
+        exec: short("exec", options.value("exec"))?,
+        agent: agent_of(job, options)?,
+        user: options.value("user").unwrap_or("nobody"),
+        identity: options.value("identity"),
+        password_file: options.value("password-file"),
+        known_hosts: options.value("known-hosts"),
+        host: options.value("host"),
+        host_key: options.value("host-key"),
+        authorized_keys: options.value("authorized-keys"),
+        banner: options.value("banner"),
+        methods: options.value("methods").unwrap_or("publickey,password"),
+        required: options.value("required"),
+        report: options.value("report"),
     })
 }
 
 /// Refuses words without an option that the job needs.
-fn needs<'a>(job: Job, given: &[Given<'a>]) -> Result<(), WordFault<'a>> {
-    let options: &[&'static str] = match job {
+fn check_needed<'a>(job: Job, options: &Options<'a>) -> Result<(), WordFault<'a>> {
+    let needed: &[&'static str] = match job {
         Job::Client => &["user", "known-hosts", "host"],
         Job::Server => &["user", "host-key"],
         Job::Probe => &["host"],
     };
-    for option in options {
-        if value_of(given, option).is_none() {
-            return Err(WordFault::Missing { job, option });
-        }
+    for option in needed {
+        options.needed(option)?;
     }
     Ok(())
 }
 
 /// The agent, where both of its files are named. A client needs a key by which it signs, which an agent doesn't choose.
-fn agent_of<'a>(job: Job, given: &[Given<'a>]) -> Result<Option<Agent<'a>>, WordFault<'a>> {
-    let (option, other) = match (value_of(given, REQUESTS), value_of(given, RESPONSES)) {
+fn agent_of<'a>(job: Job, options: &Options<'a>) -> Result<Option<Agent<'a>>, WordFault<'a>> {
+    let (option, other) = match (options.value(REQUESTS), options.value(RESPONSES)) {
         (None, None) => return Ok(None),
         (Some(_), None) => (REQUESTS, RESPONSES),
         (None, Some(_)) => (RESPONSES, REQUESTS),
         (Some(requests), Some(responses)) => {
-            if !matches!(job, Job::Client) || value_of(given, "identity").is_some() {
+            if !matches!(job, Job::Client) || options.value("identity").is_some() {
                 return Ok(Some(Agent {
                     requests,
                     responses,
@@ -264,27 +153,6 @@ fn agent_of<'a>(job: Job, given: &[Given<'a>]) -> Result<Option<Agent<'a>>, Word
         }
     };
     Err(WordFault::Alone { option, other })
-}
-
-/// These names, where each of them is one that the suite has. It passes over methods that it doesn't know, and the peer
-/// would choose one, and it takes the name of another cipher for its first.
-fn known<'a>(option: &'a str, names: &'a str, all: &'a str) -> Result<&'a str, WordFault<'a>> {
-    for name in names.split(',') {
-        if !has(all, name) {
-            return Err(WordFault::Other { option, name, all });
-        }
-    }
-    Ok(names)
-}
-
-/// Whether the name is one of these.
-fn has(all: &str, name: &str) -> bool {
-    for own in all.split(',') {
-        if own == name {
-            return true;
-        }
-    }
-    false
 }
 
 /// A command, where it isn't too long.
@@ -303,36 +171,19 @@ fn tries_of(word: Option<&str>) -> Result<u32, WordFault<'_>> {
         Some(value) => value.parse::<u32>().map_err(|_| WordFault::NoNumber {
             option: "tries",
             value,
-        }),
-    }
-}
-
-/// `yes` or `no`, or what holds where no word says it.
-fn flag_of<'a>(
-    option: &'a str,
-    word: Option<&'a str>,
-    otherwise: bool,
-) -> Result<bool, WordFault<'a>> {
-    match word {
-        None => Ok(otherwise),
-        Some("yes") => Ok(true),
-        Some("no") => Ok(false),
-        Some(name) => Err(WordFault::Other {
-            option,
-            name,
-            all: "yes,no",
+            wanted: "a number",
         }),
     }
 }
 
 /// `strict` or `deployed`, which holds where no word says it.
-fn reading_of<'a>(option: &'a str, word: Option<&'a str>) -> Result<PeerReading, WordFault<'a>> {
+fn reading_of(word: Option<&str>) -> Result<PeerReading, WordFault<'_>> {
     match word {
         None => Ok(PeerReading::Deployed),
         Some("strict") => Ok(PeerReading::Strict),
         Some("deployed") => Ok(PeerReading::Deployed),
         Some(name) => Err(WordFault::Other {
-            option,
+            option: "reading",
             name,
             all: "strict,deployed",
         }),

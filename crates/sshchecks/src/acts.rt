@@ -4,7 +4,7 @@ use crate::bends::{Bend, bend_of};
 use crate::fault::CheckFault;
 use crate::look::{Look, look_of};
 use crate::steps::{Step, steps_of};
-use crate::terms::byte_of;
+use hex::FromHex;
 use sshneg::Side;
 
 /// How often a line may be played at most.
@@ -312,11 +312,8 @@ fn turn_of<'a>(name: &'a str, rest: &str) -> Option<Work<'a>> {
 
 /// The byte that two hexadecimal digits spell.
 fn mask_of(word: &str) -> Option<u8> {
-    let digits = word.as_bytes();
-    if digits.len() != 2 {
-        return None;
-    }
-    byte_of(digits)
+    let [mask] = <[u8; 1]>::from_hex(word).ok()?;
+    Some(mask)
 }
 
 /// A place that a word names.

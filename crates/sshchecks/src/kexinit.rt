@@ -3,9 +3,9 @@
 use crate::agreement::LISTS;
 use crate::fault::PlayFault;
 use crate::settings::Setting;
-use crate::terms::put_text;
 use sshmsg::SSH_MSG_KEXINIT;
 use sshneg::{Side, strict_marker};
+use sshwire::ByteBuffer;
 use std::alloc::Global;
 
 /// The methods of the own KEXINIT.
@@ -77,44 +77,38 @@ impl OwnLists {
         side: Side,
         setting: &Setting<'_>,
     ) -> Result<Vec<u8>, PlayFault<'a>> {
-        let mut out = Vec::new(alloc);
-        out.push(SSH_MSG_KEXINIT)?;
-        out.extend_from_slice(setting.cookie())?;
+        let mut out = ByteBuffer::new(alloc);
+        out.put(&[SSH_MSG_KEXINIT]);
+        out.put(setting.cookie());
         for (place, bent) in self.bent.iter().enumerate() {
             match bent {
-                Some(list) => put_text(&mut out, list)?,
-                None => {
-                    let list = self.ordinary(alloc, side, setting, place)?;
-                    put_text(&mut out, &list)?;
-                }
+                Some(list) => out.put_string(list),
+                None if place == 0 && !self.plain => put_methods(&mut out, side),
+                None => out.put_string(ordinary(setting, place).as_bytes()),
             }
         }
-        out.extend_from_slice(&self.tail)?;
-        Ok(out)
+        out.put(&self.tail);
+        Ok(out.finish()?)
     }
+}
 
-    /// The list that an ordinary one has at a place.
-    fn ordinary<'a>(
-        &self,
-        alloc: Global,
-        side: Side,
-        setting: &Setting<'_>,
-        place: usize,
-    ) -> Result<Vec<u8>, PlayFault<'a>> {
-        let mut list = Vec::new(alloc);
-        let text = match place {
-            0 => METHODS,
-            1 => "ssh-ed25519",
-            2 | 3 => setting.ciphers,
-            4 | 5 => setting.macs,
-            6 | 7 => "none",
-            _ => "",
-        };
-        list.extend_from_slice(text.as_bytes())?;
-        if place == 0 && !self.plain {
-            list.push(b',')?;
-            list.extend_from_slice(strict_marker(side).as_bytes())?;
-        }
-        Ok(list)
+/// Puts the list of methods with the marker of the strict key exchange at its end.
+fn put_methods(out: &mut ByteBuffer, side: Side) {
+    let (methods, marker) = (METHODS.as_bytes(), strict_marker(side).as_bytes());
+    out.put_u32((methods.len() + 1 + marker.len()) as u32);
+    out.put(methods);
+    out.put(b",");
+    out.put(marker);
+}
+
+/// The list that an ordinary one has at a place.
+fn ordinary<'a>(setting: &Setting<'a>, place: usize) -> &'a str {
+    match place {
+        0 => METHODS,
+        1 => "ssh-ed25519",
+        2 | 3 => setting.ciphers,
+        4 | 5 => setting.macs,
+        6 | 7 => "none",
+        _ => "",
     }
 }

@@ -14,7 +14,6 @@ mod incoming;
 mod kexinit;
 mod known;
 mod look;
-mod names;
 mod noted;
 mod own;
 mod own_keys;

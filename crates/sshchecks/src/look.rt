@@ -1,8 +1,8 @@
 //! What is looked at of what a peer sent in clear.
 
 use crate::agreement::Lists;
-use crate::names::Names;
 use sshneg::{Side, strict_marker};
+use sshterms::Names;
 
 /// What is looked at.
 #[derive(Clone, Copy, Debug, PartialEq, Eq)]

@@ -2,12 +2,13 @@
 
 use crate::fault::PlayFault;
 use crate::kexinit::{METHODS, OwnLists};
-use crate::names::Names;
 use crate::own_keys::{blob_of, share_of};
 use crate::settings::Given;
 use crate::terms::bytes_of;
 use sshneg::strict_marker;
-use std::alloc::Global;
+use sshterms::Names;
+use sshwire::TextBuffer;
+use std::alloc::{AllocError, Global};
 
 /// The own version line, where no act names another.
 const LINE: &[u8] = b"SSH-2.0-conform_0.1\r\n";
@@ -111,7 +112,7 @@ fn name_texts<'a>(given: &Given<'a>, names: &mut Names) -> Result<(), PlayFault<
     names.set_copy(alloc, "macs", setting.macs.as_bytes())?;
     names.set_copy(alloc, "number", &[setting.number])?;
     let many = many_names(alloc)?;
-    names.set(alloc, "many", many)
+    Ok(names.set(alloc, "many", many)?)
 }
 
 /// Names keys and shares.
@@ -124,7 +125,7 @@ fn name_keys<'a>(given: &Given<'a>, names: &mut Names) -> Result<(), PlayFault<'
     let share = share_of(alloc, setting.exchange_random())?;
     names.set(alloc, "share", share)?;
     let other = share_of(alloc, setting.other_random())?;
-    names.set(alloc, "other", other)
+    Ok(names.set(alloc, "other", other)?)
 }
 
 /// Names the own KEXINIT of these lists.
@@ -134,32 +135,15 @@ fn name_kexinit<'a>(
     lists: &OwnLists,
 ) -> Result<(), PlayFault<'a>> {
     let payload = lists.payload(given.alloc, given.side, &given.setting)?;
-    names.set(given.alloc, "kexinit", payload)
+    Ok(names.set(given.alloc, "kexinit", payload)?)
 }
 
 /// Unknown names with commas between.
-fn many_names<'a>(alloc: Global) -> Result<Vec<u8>, PlayFault<'a>> {
-    let mut out = Vec::new(alloc);
+fn many_names(alloc: Global) -> Result<Vec<u8>, AllocError> {
+    let mut names = TextBuffer::new(alloc);
     for count in 0..MANY {
-        put_name(&mut out, count)?;
+        let sign = if count == 0 { "" } else { "," };
+        write!(names, "{sign}k{count:04}");
     }
-    Ok(out)
-}
-
-/// Appends an unknown name, after a comma if it isn't the first.
-fn put_name<'a>(out: &mut Vec<u8>, count: u32) -> Result<(), PlayFault<'a>> {
-    if count > 0 {
-        out.push(b',')?;
-    }
-    out.push(b'k')?;
-    out.push(digit(count / 1000))?;
-    out.push(digit(count / 100))?;
-    out.push(digit(count / 10))?;
-    out.push(digit(count))?;
-    Ok(())
-}
-
-/// The last decimal digit of a number.
-fn digit(number: u32) -> u8 {
-    b'0' + (number % 10) as u8
+    Ok(names.finish()?.into_bytes())
 }

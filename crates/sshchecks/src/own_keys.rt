@@ -6,13 +6,14 @@ ghost use Rattle.sshneg.specs.ExchangeView.{exchange_data};
 
 use crate::agreement::{Lists, protection_of};
 use crate::fault::PlayFault;
-use crate::names::Names;
 use crate::settings::Setting;
-use crate::terms::{BYTES_LIMIT, put_text};
+use crate::terms::BYTES_LIMIT;
 use sshmsg::SSH_MSG_USERAUTH_REQUEST;
 use sshneg::{Exchange, KeyMaterial, Side, exchange_input, keys_of};
 use sshpacket::{Keys, Suite};
 use sshsuite::DeployedSuite;
+use sshterms::Names;
+use sshwire::{ByteBuffer, Memory};
 use std::alloc::Global;
 
 /// The one method of the exchange, and the one algorithm of own keys.
@@ -217,24 +218,12 @@ fn name_both<'a>(
     setting: &Setting<'_>,
     blob: &[u8],
 ) -> Result<(), PlayFault<'a>> {
-    let query = request(alloc, setting.user, blob, 0)?;
+    let query = request(alloc, setting.user, blob, false).finish()?;
     names.set(alloc, "query", query)?;
-    let mut signed = request(alloc, setting.user, blob, 1)?;
-    sign_request(alloc, setting, names.bytes("session"), &mut signed)?;
-    names.set(alloc, "good", signed)
-}
-
-/// Appends the signature of a request to its fields.
-fn sign_request<'a>(
-    alloc: Global,
-    setting: &Setting<'_>,
-    session: &[u8],
-    fields: &mut Vec<u8>,
-) -> Result<(), PlayFault<'a>> {
-    let signature = request_signature(alloc, setting, session, fields)?;
-    let put = put_text(fields, &signature);
-    drop(signature);
-    Ok(put?)
+    let signature = request_signature(alloc, setting, names.bytes("session"), blob)?;
+    let mut signed = request(alloc, setting.user, blob, true);
+    signed.put_string(&signature);
+    Ok(names.set(alloc, "good", signed.finish()?)?)
 }
 
 /// The signature of the session identifier and a request's fields (RFC 4252 section 7).
@@ -242,33 +231,34 @@ fn request_signature<'a>(
     alloc: Global,
     setting: &Setting<'_>,
     session: &[u8],
-    fields: &[u8],
+    blob: &[u8],
 ) -> Result<Vec<u8>, PlayFault<'a>> {
-    let mut input = Vec::new(alloc);
-    put_text(&mut input, session)?;
-    input.extend_from_slice(fields)?;
+    let input = signed_input(alloc, setting.user, session, blob)?;
     wrapped_signature(alloc, setting.own_key, &input)
 }
 
-/// The fields of a request up to the key; the flag says whether a signature follows.
-fn request<'a>(alloc: Global, user: &str, blob: &[u8], flag: u8) -> Result<Vec<u8>, PlayFault<'a>> {
-    let mut out = Vec::new(alloc);
-    put_request(&mut out, user, blob, flag)?;
-    Ok(out)
+/// What is signed: the session identifier as a string, and a request's fields.
+fn signed_input(alloc: Global, user: &str, session: &[u8], blob: &[u8]) -> Result<Vec<u8>, Memory> {
+    let mut input = ByteBuffer::new(alloc);
+    input.put_string(session);
+    put_request(&mut input, user, blob, true);
+    input.finish()
 }
 
-/// Appends them.
-fn put_request<'a>(
-    out: &mut Vec<u8>,
-    user: &str,
-    blob: &[u8],
-    flag: u8,
-) -> Result<(), PlayFault<'a>> {
-    out.push(SSH_MSG_USERAUTH_REQUEST)?;
-    put_text(out, user.as_bytes())?;
-    put_text(out, b"ssh-connection")?;
-    put_text(out, b"publickey")?;
-    out.push(flag)?;
-    put_text(out, KEY.as_bytes())?;
-    Ok(put_text(out, blob)?)
+/// The fields of a request up to the key; the flag says whether a signature follows.
+fn request(alloc: Global, user: &str, blob: &[u8], is_signed: bool) -> ByteBuffer {
+    let mut out = ByteBuffer::new(alloc);
+    put_request(&mut out, user, blob, is_signed);
+    out
+}
+
+/// Puts them.
+fn put_request(out: &mut ByteBuffer, user: &str, blob: &[u8], is_signed: bool) {
+    out.put(&[SSH_MSG_USERAUTH_REQUEST]);
+    out.put_string(user.as_bytes());
+    out.put_string(b"ssh-connection");
+    out.put_string(b"publickey");
+    out.put_boolean(is_signed);
+    out.put_string(KEY.as_bytes());
+    out.put_string(blob);
 }

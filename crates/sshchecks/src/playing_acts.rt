@@ -4,7 +4,6 @@ use crate::acts::{Act, Spot, Work};
 use crate::fault::PlayFault;
 use crate::known::Sides;
 use crate::look::{Look, are_so, seen};
-use crate::names::Names;
 use crate::noted::Noted;
 use crate::own::Own;
 use crate::own_keys::{signature_of, wrap};
@@ -16,6 +15,7 @@ use crate::sending::Sending;
 use crate::settings::Given;
 use crate::terms::bytes_of;
 use sshneg::Side;
+use sshterms::Names;
 use std::alloc::Global;
 
 /// Does an act.
@@ -77,7 +77,7 @@ fn put_terms<'a>(
     sending.note_last();
     let payload = bytes_of(alloc, names, line, terms)?;
     sending.put(alloc, line, &payload, out)?;
-    names.set(alloc, "last", payload)
+    Ok(names.set(alloc, "last", payload)?)
 }
 
 /// Sends the bytes of terms.
@@ -147,7 +147,7 @@ fn set_name<'a>(
         } => (name, signed(given, names, line, by_stranger, terms)),
         _ => return bend_name(names, act),
     };
-    names.set(alloc, named.0, named.1?)
+    Ok(names.set(alloc, named.0, named.1?)?)
 }
 
 /// The next packet of a payload of terms.

@@ -3,7 +3,6 @@
 use crate::agreement::Lists;
 use crate::fault::PlayFault;
 use crate::known::{Sides, without_end};
-use crate::names::Names;
 use crate::own::Own;
 use crate::own_keys::{
     Known, Secrets, derived, has_signed, name_requests, shared_of, wrapped_signature,
@@ -12,11 +11,12 @@ use crate::peer::{Came, Peer};
 use crate::progress::Progress;
 use crate::sending::Sending;
 use crate::settings::Given;
-use crate::terms::{bytes_of, put_text};
+use crate::terms::bytes_of;
 use sshmsg::SSH_MSG_KEX_ECDH_REPLY;
 use sshneg::Side;
 use sshpacket::Keys;
-use sshwire::Reader;
+use sshterms::Names;
+use sshwire::{ByteBuffer, Reader};
 use std::alloc::Global;
 
 /// The parts of an exchange in which both sides may differ.
@@ -169,24 +169,13 @@ pub(crate) fn send_reply<'a>(
 
 /// The payload of the server's reply, with a signature of the exchange hash.
 fn own_reply<'a>(given: &Given<'a>, names: &Names) -> Result<Vec<u8>, PlayFault<'a>> {
-    let mut payload = Vec::new(given.alloc);
-    put_reply(given, names, &mut payload)?;
-    Ok(payload)
-}
-
-/// Appends the same.
-fn put_reply<'a>(
-    given: &Given<'a>,
-    names: &Names,
-    payload: &mut Vec<u8>,
-) -> Result<(), PlayFault<'a>> {
-    payload.push(SSH_MSG_KEX_ECDH_REPLY)?;
-    put_text(payload, names.bytes("blob"))?;
-    put_text(payload, names.bytes("share"))?;
     let signature = wrapped_signature(given.alloc, given.setting.own_key, names.bytes("hash"))?;
-    let put = put_text(payload, &signature);
-    drop(signature);
-    Ok(put?)
+    let mut payload = ByteBuffer::new(given.alloc);
+    payload.put(&[SSH_MSG_KEX_ECDH_REPLY]);
+    payload.put_string(names.bytes("blob"));
+    payload.put_string(names.bytes("share"));
+    payload.put_string(&signature);
+    Ok(payload.finish()?)
 }
 
 /// The keys of an exchange by the own host key and share.
@@ -195,8 +184,8 @@ fn own_keys<'a>(
     own: &mut Own,
     sides: &Sides,
 ) -> Result<Option<BothKeys>, PlayFault<'a>> {
-    let host_key = own.names.copy_of(given.alloc, "blob")?;
-    let share = own.names.copy_of(given.alloc, "share")?;
+    let host_key = Vec::from_slice(given.alloc, own.names.bytes("blob"))?;
+    let share = Vec::from_slice(given.alloc, own.names.bytes("share"))?;
     exchange_as_server(given, own, sides, false, &host_key, &share)
 }
 

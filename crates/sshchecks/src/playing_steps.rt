@@ -3,7 +3,6 @@
 use crate::fault::PlayFault;
 use crate::incoming::{Front, Incoming};
 use crate::known::Sides;
-use crate::names::Names;
 use crate::own::Own;
 use crate::peer::{Came, Peer};
 use crate::playing_acts::goes_on_if;
@@ -12,14 +11,14 @@ use crate::progress::{Progress, done};
 use crate::sending::Sending;
 use crate::settings::Given;
 use crate::steps::Step;
-use crate::terms::put_text;
 use sshmsg::{
     SSH_MSG_KEX_ECDH_INIT, SSH_MSG_KEXINIT, SSH_MSG_NEWKEYS, SSH_MSG_SERVICE_ACCEPT,
     SSH_MSG_SERVICE_REQUEST, SSH_MSG_USERAUTH_FAILURE, SSH_MSG_USERAUTH_PK_OK,
     SSH_MSG_USERAUTH_REQUEST, SSH_MSG_USERAUTH_SUCCESS,
 };
 use sshneg::Side;
-use sshwire::Reader;
+use sshterms::Names;
+use sshwire::{ByteBuffer, Memory, Reader};
 use std::alloc::Global;
 
 /// The methods that a server names.
@@ -196,7 +195,10 @@ fn read_share<'a>(
 ) -> Result<Progress, PlayFault<'a>> {
     match peer.payload_with(alloc, SSH_MSG_KEX_ECDH_INIT)? {
         Came::Nothing(progress) => Ok(progress),
-        Came::Payload(payload) => done(names.set_copy(alloc, "peer", share_in(&payload))),
+        Came::Payload(payload) => {
+            names.set_copy(alloc, "peer", share_in(&payload))?;
+            Ok(Progress::Done)
+        }
     }
 }
 
@@ -243,24 +245,18 @@ fn answer<'a>(
 }
 
 /// The answer to a request that proves nothing.
-fn answer_to<'a>(alloc: Global, payload: &[u8]) -> Result<Vec<u8>, PlayFault<'a>> {
-    let mut reply = Vec::new(alloc);
-    put_answer(&mut reply, payload)?;
-    Ok(reply)
-}
-
-/// Appends it.
-fn put_answer<'a>(reply: &mut Vec<u8>, payload: &[u8]) -> Result<(), PlayFault<'a>> {
+fn answer_to(alloc: Global, payload: &[u8]) -> Result<Vec<u8>, Memory> {
     let (method, fields) = method_in(payload);
+    let mut reply = ByteBuffer::new(alloc);
     if method == b"publickey".as_slice() {
-        reply.push(SSH_MSG_USERAUTH_PK_OK)?;
-        reply.extend_from_slice(fields.get(1..).unwrap_or(&[]))?;
+        reply.put(&[SSH_MSG_USERAUTH_PK_OK]);
+        reply.put(fields.get(1..).unwrap_or(&[]));
     } else {
-        reply.push(SSH_MSG_USERAUTH_FAILURE)?;
-        put_text(reply, METHODS)?;
-        reply.push(0)?;
+        reply.put(&[SSH_MSG_USERAUTH_FAILURE]);
+        reply.put_string(METHODS);
+        reply.put_boolean(false);
     }
-    Ok(())
+    reply.finish()
 }
 
 /// The method of a request, and its fields.

@@ -2,9 +2,10 @@
 
 use crate::bends::{Bend, Bends};
 use crate::fault::PlayFault;
-use crate::terms::{BYTES_LIMIT, put_text};
+use crate::terms::BYTES_LIMIT;
 use sshpacket::{Keys, Suite};
 use sshsuite::DeployedSuite;
+use sshwire::{ByteBuffer, Memory};
 use std::alloc::Global;
 
 /// The block in clear (RFC 4253 section 6).
@@ -183,11 +184,11 @@ impl Sending {
 }
 
 /// The payload of a message of one string.
-fn message<'a>(alloc: Global, number: u8, text: &[u8]) -> Result<Vec<u8>, PlayFault<'a>> {
-    let mut payload = Vec::new(alloc);
-    payload.push(number)?;
-    put_text(&mut payload, text)?;
-    Ok(payload)
+fn message(alloc: Global, number: u8, text: &[u8]) -> Result<Vec<u8>, Memory> {
+    let mut payload = ByteBuffer::new(alloc);
+    payload.put(&[number]);
+    payload.put_string(text);
+    payload.finish()
 }
 
 /// The least padding of a payload for a block, where packet_length counts or not (RFC 4253 section 6).
@@ -216,14 +217,14 @@ fn clear_packet<'a>(
     let claimed = bends
         .length
         .unwrap_or(u32::try_from(length).unwrap_or(u32::MAX));
-    let mut out = Vec::new(alloc);
-    out.extend_from_slice(&claimed.to_be_bytes())?;
-    out.push(bends.padding_length.unwrap_or(padding))?;
-    out.extend_from_slice(payload)?;
+    let mut out = ByteBuffer::new(alloc);
+    out.put_u32(claimed);
+    out.put(&[bends.padding_length.unwrap_or(padding)]);
+    out.put(payload);
     for _ in 0..padding {
-        out.push(0)?;
+        out.put(&[0]);
     }
-    Ok(out)
+    Ok(out.finish()?)
 }
 
 /// What a reader takes of a packet in clear by its padding_length, which may be bent; nothing where that is too great.

@@ -2,17 +2,17 @@
 
 use crate::blocks::{Block, first_block};
 use crate::escapes::{put_array, put_member, put_shown};
-use crate::fault::Fault;
 use crate::judged::group_of;
 use crate::settings::Listed;
 use crate::stop::{Stop, stopped};
 use sshchecks::{Check, read_check};
 use sshidentity::{bytes_of, text_in};
-use std::alloc::AllocError;
+use sshprogram::ProgramFault;
+use sshwire::TextBuffer;
 use std::io::Write;
 
 /// Prints the checks of a file on standard output, a line for each, and answers the exit status.
-pub(crate) fn list(rt: &HostRuntime, listed: &Listed<'_>) -> Result<u8, Fault> {
+pub(crate) fn list(rt: &HostRuntime, listed: &Listed<'_>) -> Result<u8, ProgramFault> {
     let file = bytes_of(rt, "checks", listed.checks)?;
     let text = text_in("checks", &file)?;
     let mut rest = text;
@@ -35,68 +35,68 @@ fn list_block<'a>(
     block: &Block<'a>,
 ) -> Result<(), Stop<'a>> {
     let check = read_check(rt.alloc(), listed.judged.other(), block.lines)?;
-    let mut line = String::new(rt.alloc());
-    let put = if listed.json {
-        put_object(&mut line, &check)
+    let mut line = TextBuffer::new(rt.alloc());
+    if listed.json {
+        put_object(&mut line, &check);
     } else {
-        put_row(&mut line, &check)
-    };
-    put.map_err(Fault::from)?;
+        put_row(&mut line, &check);
+    }
+    let line = line.finish().map_err(ProgramFault::from)?;
     let written = rt.stdout().write_all(line.as_bytes());
-    written.map_err(|_| Fault::Write)?;
+    written.map_err(|_| ProgramFault::Write)?;
     Ok(())
 }
 
 /// Puts a check as an object of JSON.
-fn put_object(line: &mut String, check: &Check<'_>) -> Result<(), AllocError> {
-    put_member(line, "name", check.name)?;
-    put_member(line, "group", group_of(check.name))?;
-    put_member(line, "about", check.about)?;
-    put_member(line, "asked", check.asked.word())?;
-    put_member(line, "source", check.source)?;
-    put_array(line, "expect", check.expect)?;
-    put_array(line, "hole", check.hole)?;
-    put_member(line, "needs", check.needs)?;
-    line.push_str("}\n")
+fn put_object(line: &mut TextBuffer, check: &Check<'_>) {
+    put_member(line, "name", check.name);
+    put_member(line, "group", group_of(check.name));
+    put_member(line, "about", check.about);
+    put_member(line, "asked", check.asked.word());
+    put_member(line, "source", check.source);
+    put_array(line, "expect", check.expect);
+    put_array(line, "hole", check.hole);
+    put_member(line, "needs", check.needs);
+    line.push_str("}\n");
 }
 
 /// Puts a check as a row of a table.
-fn put_row(line: &mut String, check: &Check<'_>) -> Result<(), AllocError> {
-    line.push('|')?;
-    put_cell(line, check.name)?;
-    put_cell(line, check.about)?;
-    line.push(' ')?;
-    line.push_str(check.asked.word())?;
-    put_cell(line, check.source)?;
-    put_choices(line, check.expect)?;
-    put_choices(line, check.hole)?;
-    line.push('\n')
+fn put_row(line: &mut TextBuffer, check: &Check<'_>) {
+    line.push('|');
+    put_cell(line, check.name);
+    put_cell(line, check.about);
+    line.push(' ');
+    line.push_str(check.asked.word());
+    put_cell(line, check.source);
+    put_choices(line, check.expect);
+    put_choices(line, check.hole);
+    line.push('\n');
 }
 
 /// Puts what a cell has, and the cell's end.
-fn put_cell(line: &mut String, text: &str) -> Result<(), AllocError> {
+fn put_cell(line: &mut TextBuffer, text: &str) {
     if !text.is_empty() {
-        line.push(' ')?;
+        line.push(' ');
     }
     for (place, part) in text.split('|').enumerate() {
         if place > 0 {
-            line.push_str("\\|")?;
+            line.push_str("\\|");
         }
-        put_shown(line, part.as_bytes())?;
+        put_shown(line, part.as_bytes());
     }
-    line.push_str(" |")
+    line.push_str(" |");
 }
 
 /// Puts a cell of words that stand with `|` between, with `or` in its place.
-fn put_choices(line: &mut String, words: &str) -> Result<(), AllocError> {
+fn put_choices(line: &mut TextBuffer, words: &str) {
     for (place, word) in words.split('|').enumerate() {
         if place > 0 {
-            line.push_str(" or")?;
+            line.push_str(" or");
         }
         if !word.is_empty() {
-            line.push(' ')?;
+            line.push(' ');
         }
-        put_shown(line, word.as_bytes())?;
+        put_shown(line, word.as_bytes());
     }
-    line.push_str(" |")
+    line.push_str(" |");
 }

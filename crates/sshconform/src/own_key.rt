@@ -1,10 +1,9 @@
 //! What this side proves itself by, and its random bytes.
 
-use crate::fault::Fault;
 use crate::settings::Settings;
 use sshchecks::Setting;
 use sshidentity::{FileFault, bytes_of, first_line, private_key, text_in};
-use std::random::RandomSource;
+use sshprogram::{ProgramFault, random};
 
 /// How many random bytes a player takes.
 const DRAWN: usize = 128;
@@ -38,7 +37,7 @@ impl Own {
 }
 
 /// Reads the files of the key and of the password, and draws random bytes of the system.
-pub(crate) fn read_own(rt: &HostRuntime, settings: &Settings<'_>) -> Result<Own, Fault> {
+pub(crate) fn read_own(rt: &HostRuntime, settings: &Settings<'_>) -> Result<Own, ProgramFault> {
     let key = key_in(rt, settings.key_option, settings.key)?;
     let password = match settings.password_file {
         Some(path) => first_line(rt, "password-file", path)?,
@@ -55,18 +54,9 @@ pub(crate) fn read_own(rt: &HostRuntime, settings: &Settings<'_>) -> Result<Own,
 }
 
 /// The private key in the file that the option names.
-fn key_in(rt: &HostRuntime, option: &'static str, path: &str) -> Result<Vec<u8>, Fault> {
+fn key_in(rt: &HostRuntime, option: &'static str, path: &str) -> Result<Vec<u8>, ProgramFault> {
     let file = bytes_of(rt, option, path)?;
     let text = text_in(option, &file)?;
     let found = private_key(rt, option, path, text)?;
-    found.map_err(|fault| Fault::File(FileFault::Key(option, fault)))
-}
-
-/// Random bytes, from the system's random source.
-fn random<const N: usize>(rt: &HostRuntime) -> Result<[u8; N], Fault> {
-    let mut bytes = [0; N];
-    match rt.fill_bytes(&mut bytes) {
-        Ok(()) => Ok(bytes),
-        Err(_) => Err(Fault::Random),
-    }
+    found.map_err(|fault| ProgramFault::File(FileFault::Key(option, fault)))
 }

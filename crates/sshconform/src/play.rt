@@ -1,8 +1,6 @@
 //! A check that is played over standard input and output.
 
-use crate::REFUSED;
 use crate::blocks::{Block, block_named};
-use crate::fault::Fault;
 use crate::judged::judged_check;
 use crate::own_key::{Own, read_own};
 use crate::report::{Outcome, json_of, text_of};
@@ -11,10 +9,11 @@ use crate::stop::{Stop, stopped};
 use crate::stream::{CHUNK, receive, send};
 use sshchecks::{Check, Player, Setting, Turn, Verdict, verdict_of};
 use sshidentity::{bytes_of, text_in};
+use sshprogram::{ProgramFault, REFUSED};
 use std::io::Write;
 
 /// Plays the check of a name, tells what the peer did, and answers the exit status.
-pub(crate) fn play(rt: &HostRuntime, settings: &Settings<'_>) -> Result<u8, Fault> {
+pub(crate) fn play(rt: &HostRuntime, settings: &Settings<'_>) -> Result<u8, ProgramFault> {
     let file = bytes_of(rt, "checks", settings.checks)?;
     let text = text_in("checks", &file)?;
     let Some(block) = block_named(text, settings.check) else {
@@ -36,7 +35,7 @@ fn play_block(
     text: &str,
     block: &Block<'_>,
     own: &Own,
-) -> Result<u8, Fault> {
+) -> Result<u8, ProgramFault> {
     match judged_check(rt.alloc(), settings, block) {
         Ok(check) => play_check(rt, settings, text, block, &check, own),
         Err(stop) => stopped(rt, text, block, stop),
@@ -51,7 +50,7 @@ fn play_check(
     block: &Block<'_>,
     check: &Check<'_>,
     own: &Own,
-) -> Result<u8, Fault> {
+) -> Result<u8, ProgramFault> {
     let setting = own.setting(settings.number.unwrap_or(0));
     match play_by(rt, settings, check, setting) {
         Ok(verdict) => Ok(status_of(verdict)),
@@ -83,7 +82,7 @@ fn player_of<'a>(
     let player = Player::new(rt.alloc(), side, check, setting)?;
     match Box::new(rt.alloc(), player) {
         Ok(player) => Ok(player),
-        Err(_) => Err(Stop::Fault(Fault::Memory)),
+        Err(_) => Err(Stop::Fault(ProgramFault::Memory)),
     }
 }
 
@@ -125,7 +124,7 @@ fn tell(
     settings: &Settings<'_>,
     check: &Check<'_>,
     player: &Player<'_>,
-) -> Result<Verdict, Fault> {
+) -> Result<Verdict, ProgramFault> {
     let did = player.did();
     let verdict = verdict_of(check, did);
     let outcome = Outcome {
@@ -142,7 +141,7 @@ fn tell(
         text_of(rt.alloc(), check, &outcome)?
     };
     let written = rt.stderr().write_all(line.as_bytes());
-    written.map_err(|_| Fault::Write)?;
+    written.map_err(|_| ProgramFault::Write)?;
     Ok(verdict)
 }
 

@@ -3,8 +3,8 @@
 use crate::escapes::{put_array, put_key, put_member, put_shown};
 use crate::judged::group_of;
 use sshchecks::{Check, Verdict};
+use sshwire::TextBuffer;
 use std::alloc::{AllocError, Global};
-use std::fmt::Write;
 
 /// What a peer did.
 #[derive(Clone, Copy)]
@@ -28,28 +28,28 @@ pub(crate) fn text_of(
     check: &Check<'_>,
     outcome: &Outcome<'_>,
 ) -> Result<String, AllocError> {
-    let mut line = String::new(alloc);
+    let mut line = TextBuffer::new(alloc);
     let verdict = outcome.verdict;
-    write!(line, "{verdict} ")?;
-    put_shown(&mut line, check.name.as_bytes())?;
-    line.push_str(": ")?;
-    put_shown(&mut line, outcome.did.as_bytes())?;
+    write!(line, "{verdict} ");
+    put_shown(&mut line, check.name.as_bytes());
+    line.push_str(": ");
+    put_shown(&mut line, outcome.did.as_bytes());
     if let Some(reason) = outcome.reason {
-        write!(line, " (DISCONNECT {reason})")?;
+        write!(line, " (DISCONNECT {reason})");
     }
     if !outcome.at.is_empty() {
-        line.push_str(" at `")?;
-        put_shown(&mut line, outcome.at.as_bytes())?;
-        line.push('`')?;
+        line.push_str(" at `");
+        put_shown(&mut line, outcome.at.as_bytes());
+        line.push('`');
     }
-    line.push_str("; ")?;
-    line.push_str(check.asked.word())?;
+    line.push_str("; ");
+    line.push_str(check.asked.word());
     if !check.source.is_empty() {
-        line.push(' ')?;
-        put_shown(&mut line, check.source.as_bytes())?;
+        line.push(' ');
+        put_shown(&mut line, check.source.as_bytes());
     }
-    line.push('\n')?;
-    Ok(line)
+    line.push('\n');
+    line.finish()
 }
 
 /// The same as an object of JSON, in a line.
@@ -58,31 +58,31 @@ pub(crate) fn json_of(
     check: &Check<'_>,
     outcome: &Outcome<'_>,
 ) -> Result<String, AllocError> {
-    let mut line = String::new(alloc);
-    put_member(&mut line, "name", check.name)?;
-    put_member(&mut line, "group", group_of(check.name))?;
-    put_member(&mut line, "sent", check.about)?;
-    put_member(&mut line, "asked", check.asked.word())?;
-    put_member(&mut line, "source", check.source)?;
-    put_array(&mut line, "expected", check.expect)?;
-    put_member(&mut line, "did", outcome.did)?;
-    put_key(&mut line, "reason")?;
+    let mut line = TextBuffer::new(alloc);
+    put_member(&mut line, "name", check.name);
+    put_member(&mut line, "group", group_of(check.name));
+    put_member(&mut line, "sent", check.about);
+    put_member(&mut line, "asked", check.asked.word());
+    put_member(&mut line, "source", check.source);
+    put_array(&mut line, "expected", check.expect);
+    put_member(&mut line, "did", outcome.did);
+    put_key(&mut line, "reason");
     match outcome.reason {
-        Some(reason) => write!(line, "{reason}")?,
-        None => line.push_str("null")?,
+        Some(reason) => write!(line, "{reason}"),
+        None => line.push_str("null"),
     }
-    put_member(&mut line, "at", outcome.at)?;
-    put_key(&mut line, "came")?;
+    put_member(&mut line, "at", outcome.at);
+    put_key(&mut line, "came");
     let (came, verdict) = (outcome.came, outcome.verdict);
-    write!(line, "{came}")?;
-    put_key(&mut line, "unimplemented")?;
+    write!(line, "{came}");
+    put_key(&mut line, "unimplemented");
     line.push_str(if outcome.unimplemented {
         "true"
     } else {
         "false"
-    })?;
-    put_key(&mut line, "verdict")?;
-    write!(line, "\"{verdict}\"")?;
-    line.push_str("}\n")?;
-    Ok(line)
+    });
+    put_key(&mut line, "verdict");
+    write!(line, "\"{verdict}\"");
+    line.push_str("}\n");
+    line.finish()
 }

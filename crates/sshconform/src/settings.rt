@@ -4,24 +4,11 @@ use sshneg::Side;
 
 /// What the program does.
 #[derive(Clone, Copy)]
-pub(crate) enum Job {
+pub(crate) enum Work<'a> {
     /// It prints the checks of a file.
-    List,
-    /// It plays a check to a server.
-    Server,
-    /// It plays a check to a client.
-    Client,
-}
-
-impl Job {
-    /// The word that names it.
-    pub(crate) fn name(self) -> &'static str {
-        match self {
-            Job::List => "list",
-            Job::Server => "server",
-            Job::Client => "client",
-        }
-    }
+    List(Listed<'a>),
+    /// It plays a check.
+    Play(Settings<'a>),
 }
 
 /// What is listed.

@@ -1,26 +1,25 @@
 //! Why a check isn't played to its end.
 
-use crate::REFUSED;
 use crate::blocks::{Block, number_of};
 use crate::escapes::put_shown;
-use crate::fault::Fault;
 use sshchecks::{CheckFault, PlayFault};
-use std::fmt::Write as _;
+use sshprogram::{ProgramFault, REFUSED};
+use sshwire::TextBuffer;
 use std::io::Write;
 
 /// Why a check isn't played to its end.
 #[derive(Clone, Copy)]
 pub(crate) enum Stop<'a> {
     /// The program can't go on.
-    Fault(Fault),
+    Fault(ProgramFault),
     /// This line isn't one of a check.
     Line(&'a str),
     /// It sends a number, and no word says which.
     NoNumber,
 }
 
-impl From<Fault> for Stop<'_> {
-    fn from(fault: Fault) -> Self {
+impl From<ProgramFault> for Stop<'_> {
+    fn from(fault: ProgramFault) -> Self {
         Stop::Fault(fault)
     }
 }
@@ -28,7 +27,7 @@ impl From<Fault> for Stop<'_> {
 impl<'a> From<CheckFault<'a>> for Stop<'a> {
     fn from(fault: CheckFault<'a>) -> Stop<'a> {
         match fault {
-            CheckFault::Memory => Stop::Fault(Fault::Memory),
+            CheckFault::Memory => Stop::Fault(ProgramFault::Memory),
             CheckFault::Form(line) => Stop::Line(line),
         }
     }
@@ -37,7 +36,7 @@ impl<'a> From<CheckFault<'a>> for Stop<'a> {
 impl<'a> From<PlayFault<'a>> for Stop<'a> {
     fn from(fault: PlayFault<'a>) -> Stop<'a> {
         match fault {
-            PlayFault::Memory => Stop::Fault(Fault::Memory),
+            PlayFault::Memory => Stop::Fault(ProgramFault::Memory),
             PlayFault::Form(line) => Stop::Line(line),
         }
     }
@@ -49,19 +48,19 @@ pub(crate) fn stopped(
     text: &str,
     block: &Block<'_>,
     stop: Stop<'_>,
-) -> Result<u8, Fault> {
+) -> Result<u8, ProgramFault> {
     match stop {
         Stop::Fault(fault) => Err(fault),
         Stop::Line(line) => {
-            let mut told = String::new(rt.alloc());
+            let mut told = TextBuffer::new(rt.alloc());
             let number = number_of(text, block, line);
             write!(
                 told,
                 "sshconform: line {number} of the file of --checks isn't one of a check: "
-            )?;
-            put_shown(&mut told, line.as_bytes())?;
-            told.push('\n')?;
-            let _ = rt.stderr().write_all(told.as_bytes());
+            );
+            put_shown(&mut told, line.as_bytes());
+            told.push('\n');
+            let _ = rt.stderr().write_all(told.finish()?.as_bytes());
             Ok(REFUSED)
         }
         Stop::NoNumber => {

@@ -53,7 +53,7 @@ map_unchanged g xs h =
     let own = length-map xs g in
     ext_get_or 0 (map g xs) xs own (λ i less. get_or-map g xs i 0 0 (omega (arith, less, own)) ∙ h i (omega (arith, less, own)))
 
-map_low : (g : ℕ → ℕ) (top : ℕ) → ((n : ℕ) → g n < top) → (xs : List ℕ) (i : ℕ) → slice_index (map g xs) i < top
+pub map_low : (g : ℕ → ℕ) (top : ℕ) → ((n : ℕ) → g n < top) → (xs : List ℕ) (i : ℕ) → slice_index (map g xs) i < top
 map_low g top low xs i =
     let own = length-map xs g in
     elim (cases_lt i (length xs)) [
@@ -82,7 +82,7 @@ compressed_low_4 : (n : ℕ) → compressed 4 n < 16
 unfolding compressed
 compressed_low_4 n = omega arith
 
-compressed_low_1 : (n : ℕ) → compressed 1 n < 2
+pub compressed_low_1 : (n : ℕ) → compressed 1 n < 2
 unfolding compressed
 compressed_low_1 n = omega arith
 

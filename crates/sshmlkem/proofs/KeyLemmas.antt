@@ -13,12 +13,8 @@ use Rattle.sshmlkem.specs.Kem.{is_key, keys_of}
 use Rattle.sshmlkem.specs.KemBytes.{AreBytes, both_parts, digest_bytes, encoded_12, encoded_vector, first_half, keeps}
 use Rattle.sshmlkem.specs.Ntt.{add, add_product, sum_at, with_product}
 use Rattle.sshmlkem.specs.Pke.{decode_vector, dot, encode_vector, pke_keys, row_sum}
+use Rattle.sshmlkem.specs.Ring.{IsRing}
 use Rattle.sshmlkem.specs.declared.pke.Vector.{Vector}
-
--- 256 numbers below q
-record AreReduced (f : List ℕ) : Type 0 where
-  pub long : length f ≡ 256
-  pub low : (i : ℕ) → slice_index f i < 3329
 
 abbrev HasLength : List ℕ → Type 0
 HasLength f = length f ≡ 256
@@ -65,7 +61,7 @@ sums_low f g long (suc n) h i less =
           omega (arith, at, before)
     ]
 
-added_reduced : (f g : List ℕ) → length f ≡ 256 → AreReduced (add f g)
+added_reduced : (f g : List ℕ) → length f ≡ 256 → IsRing (add f g)
 unfolding add
 added_reduced f g long = record {
   long = sums_long f g 256 ∙ long;
@@ -78,15 +74,15 @@ added_reduced f g long = record {
   ];
 }
 
-row_reduced : (rho : List ℕ) (i : ℕ) (s : Vector) (error : List ℕ) → AreReduced (row_sum rho i s error)
+row_reduced : (rho : List ℕ) (i : ℕ) (s : Vector) (error : List ℕ) → IsRing (row_sum rho i s error)
 unfolding row_sum
 row_reduced rho i s error = added_reduced _ error (dot_long _ s)
 
-module _ (f g h : List ℕ) (f_low : AreReduced f) (g_low : AreReduced g) (h_low : AreReduced h) where
+module _ (f g h : List ℕ) (f_low : IsRing f) (g_low : IsRing g) (h_low : IsRing h) where
   all : List ℕ
   all = (encode_12 f ++ encode_12 g) ++ encode_12 h
 
-  again : (p x : List ℕ) → AreReduced x → p ≡ encode_12 x → encode_12 (decode_12 p) ≡ encode_12 x
+  again : (p x : List ℕ) → IsRing x → p ≡ encode_12 x → encode_12 (decode_12 p) ≡ encode_12 x
   again p x low e = ap (λ (y : List ℕ). encode_12 (decode_12 y)) e ∙ ap encode_12 (decode_of_encode_12 x low.long low.low)
 
   same_again : encode_vector (decode_vector all) ≡ all

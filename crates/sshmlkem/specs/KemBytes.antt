@@ -77,7 +77,7 @@ encoded_12 f =
     keeps (AreBytes 384) (with_encoded_12 f) (λ xs i h. set_one 384 _ (3 * i + 2) _ (set_one 384 _ (3 * i + 1) _ (set_one 384 xs (3 * i) _ h)))
     (replicate 384 0) 128 (zeros_are 384)
 
-encoded_10 : (f : List ℕ) → AreBytes 320 (encode_10 f)
+pub encoded_10 : (f : List ℕ) → AreBytes 320 (encode_10 f)
 unfolding encode_10 with_encoded_10
 encoded_10 f =
     keeps (AreBytes 320) (with_encoded_10 f) (λ xs i h. set_one 320 _ (5 * i + 4) _ (set_one 320 _ (5 * i + 3) _ (set_one 320 _ (5 * i + 2) _

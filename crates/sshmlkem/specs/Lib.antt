@@ -8,3 +8,6 @@ pub mod Pke
 pub mod Kem
 pub mod NttNumbers
 pub mod KemBytes
+pub mod Ring
+pub mod Noise
+pub mod NttLoops

@@ -1,6 +1,6 @@
 -- The number-theoretic transform and products of transforms (FIPS 203 section 4.3). A polynomial is a list of its 256 coefficients. The pairs of
 -- a layer are numbered by k from 0 to 127, in the order of algorithms 9 and 10: each block has 2^s pairs, whose numbers are 2^s apart.
--- FIPS 203 has two loops in place of k; no law compares these, a reader has to.
+-- FIPS 203 has two loops in place of k: `NttLoops.antt` has those, and the law of the transform says that both are the same.
 
 use Rattle.std.specs.Prelude.{ℕ, ◌+◌, ◌-◌, ◌*◌, ◌/◌, ◌^◌, List, [], ◌∷◌, slice_index, slice_set}
 use Rattle.sshkeccak.specs.Repeated.{repeated}

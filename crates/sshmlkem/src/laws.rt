@@ -1,15 +1,19 @@
-//! That the definitions are those of FIPS 203, as theorems. No function of the crate calls them.
+//! Theorems: the definitions are those of FIPS 203, and what is encapsulated is decapsulated again. No function of the crate
+//! calls them.
 
-ghost use Rattle.std.specs.Prelude.{◌≡◌, ◌+◌, ◌*◌, ◌/◌, ◌%◌, ◌<◌, ◌≤◌, ◌↔◌, List, [], ◌∷◌, ◌++◌, ℕ, length, map, slice_index, take, true};
+ghost use Rattle.std.specs.Prelude.{◌≡◌, ◌+◌, ◌*◌, ◌/◌, ◌%◌, ◌<◌, ◌≤◌, ◌↔◌, List, [], ◌∷◌, ◌++◌, ℕ, length, map, replicate, slice_index, take, true};
 ghost use Rattle.sshkeccak.specs.Keccak.{each_from};
 ghost use Rattle.sshkeccak.specs.Sponge.{shake128_start};
 ghost use Rattle.sshmlkem.specs.Bits.{byte_decode, byte_encode};
 ghost use Rattle.sshmlkem.specs.Codec.{compressed, decode_1, decode_10, decode_12, decode_4, decompressed, encode_1, encode_10, encode_12, encode_4};
 ghost use Rattle.sshmlkem.specs.Kem.{decapsulated, encapsulated, is_key, keys_of};
 ghost use Rattle.sshmlkem.specs.KemBytes.{IsBytes};
-ghost use Rattle.sshmlkem.specs.Ntt.{gammas, zetas};
+ghost use Rattle.sshmlkem.specs.Noise.{KeepsBits, are_small, noise_between};
+ghost use Rattle.sshmlkem.specs.Ntt.{add_product, gammas, inverse_ntt, ntt, zetas};
+ghost use Rattle.sshmlkem.specs.NttLoops.{inverse_ntt_by_loops, ntt_by_loops};
 ghost use Rattle.sshmlkem.specs.NttNumbers.{gamma_at, zeta_at};
 ghost use Rattle.sshmlkem.specs.Pke.{decode_vector, decrypted, encode_vector, pke_keys};
+ghost use Rattle.sshmlkem.specs.Ring.{Combines, IsRing, ring_product};
 ghost use Rattle.sshmlkem.specs.Sample.{sample_cbd, sample_ntt};
 ghost use Rattle.sshmlkem.specs.Streams.{accepted_of, binomial, first_256, stream};
 
@@ -25,6 +29,24 @@ pub fn mlkem_law()
     ensures from_10 { (n : ℕ) → n < 1024 → compressed 10 (decompressed 10 n) ≡ n }
     ensures from_4 { (n : ℕ) → n < 16 → compressed 4 (decompressed 4 n) ≡ n }
     ensures from_1 { (n : ℕ) → n < 2 → compressed 1 (decompressed 1 n) ≡ n }
+{}
+
+/// The law of the transform (FIPS 203 section 4.3). The inverse undoes the transform, and the transform undoes the inverse
+/// (`undone`, `back`). The inverse of a product of transforms is the product of the two polynomials modulo X^256 + 1
+/// (`product`). The transform and its inverse are linear: where h is c f + d g, number by number, the same is true of what they
+/// give (`forward`, `inverse`). Both are those of FIPS 203 algorithms 9 and 10 with their nested loops (`forward_loops`,
+/// `inverse_loops`).
+pub fn transform_law()
+    ensures back { (f : List ℕ) → IsRing f → ntt (inverse_ntt f) ≡ f }
+    ensures undone { (f : List ℕ) → IsRing f → inverse_ntt (ntt f) ≡ f }
+    ensures product { (f g : List ℕ) → IsRing f → IsRing g
+        → inverse_ntt (add_product (replicate 256 0) (ntt f) (ntt g)) ≡ ring_product f g }
+    ensures forward { (c d : ℕ) → c < 3329 → d < 3329 → (f g h : List ℕ) → IsRing f → IsRing g → IsRing h
+        → Combines c f d g h → Combines c (ntt f) d (ntt g) (ntt h) }
+    ensures inverse { (c d : ℕ) → c < 3329 → d < 3329 → (f g h : List ℕ) → IsRing f → IsRing g → IsRing h
+        → Combines c f d g h → Combines c (inverse_ntt f) d (inverse_ntt g) (inverse_ntt h) }
+    ensures forward_loops { (f : List ℕ) → ntt f ≡ ntt_by_loops f }
+    ensures inverse_loops { (f : List ℕ) → IsRing f → inverse_ntt f ≡ inverse_ntt_by_loops f }
 {}
 
 /// The law of byte encoding. For each number of bits d that ML-KEM-768 uses, numbers are encoded and bytes are decoded as FIPS
@@ -76,10 +98,25 @@ pub fn sampling_law()
 {}
 
 /// The law of agreement. Decapsulation gives the secret that was encapsulated, if the message is decrypted. That it is
-/// decrypted isn't true of all seeds and messages: it fails for less than one choice in 2^164 (FIPS 203 table 1).
+/// decrypted isn't true of all seeds and messages: `decryption_law` says exactly when it is.
 pub fn agreement_law()
     ensures { (d z m : List ℕ)
         → decrypted (pke_keys d).decryption_key (encapsulated (keys_of d z).encapsulation_key m).ciphertext ≡ m
+        → decapsulated (keys_of d z).decapsulation_key (encapsulated (keys_of d z).encapsulation_key m).ciphertext
+        ≡ (encapsulated (keys_of d z).encapsulation_key m).secret }
+{}
+
+/// The law of decryption (FIPS 203 section 5). A message is decrypted exactly if the noise keeps its bits (`exact`). The noise is
+/// a list of 256 numbers, which can be computed from the seed of the keys and the message. If each of them is from -832 to 831
+/// modulo q = 3329, which is within a quarter of q, the message is decrypted (`decrypts`), and decapsulation gives the secret
+/// that was encapsulated (`agrees`). How many choices have more noise isn't part of the law: FIPS 203 table 1 says that
+/// decapsulation fails for less than one in 2^164.
+pub fn decryption_law()
+    ensures exact { (d z m : List ℕ) → IsBytes m → length m ≡ 32
+        → (decrypted (pke_keys d).decryption_key (encapsulated (keys_of d z).encapsulation_key m).ciphertext ≡ m) ↔ KeepsBits m (noise_between d m) }
+    ensures decrypts { (d z m : List ℕ) → IsBytes m → length m ≡ 32 → are_small (noise_between d m) ≡ true
+        → decrypted (pke_keys d).decryption_key (encapsulated (keys_of d z).encapsulation_key m).ciphertext ≡ m }
+    ensures agrees { (d z m : List ℕ) → IsBytes m → length m ≡ 32 → are_small (noise_between d m) ≡ true
         → decapsulated (keys_of d z).decapsulation_key (encapsulated (keys_of d z).encapsulation_key m).ciphertext
         ≡ (encapsulated (keys_of d z).encapsulation_key m).secret }
 {}

@@ -3,3 +3,8 @@ pub mod RequestLemmas
 pub mod SessionLemmas
 pub mod WorldLemmas
 pub mod ByHandLemmas
+pub mod RoundLemmas
+pub mod CompatibleLemmas
+pub mod FitLemmas
+pub mod Group14Lemmas
+pub mod NamesLemmas

@@ -1,12 +1,12 @@
 //! What decisions are asked, and what they are told.
 
-use crate::below_texts::{put_names, text_with};
+use crate::below_texts::{put_names, put_parts};
 use crate::stop::Stop;
 use crate::texts::{put_word, same_text, yes_or_no};
 use crate::words::Line;
 use sshcore::{Decisions, Listener, Notice, Proof};
-use sshwire::Memory;
-use std::alloc::Global;
+use sshwire::{Memory, TextBuffer};
+use std::alloc::{AllocError, Global};
 use std::cell::{Cell, RefCell};
 
 /// What was kept since it was judged last, in its order.
@@ -32,7 +32,7 @@ impl StateData {
     /// Keeps words.
     fn keep(&self, words: &str) -> Result<(), Stop> {
         match self.text.try_borrow_mut() {
-            Ok(mut text) => Ok(put_word(&mut text, words)?),
+            Ok(mut text) => Ok(write!(text, " {words}")?),
             Err(_) => Ok(()),
         }
     }
@@ -95,16 +95,17 @@ fn keep_number(questions: &StateData, request_number: u32) -> Result<(), Stop> {
     questions.keep(&word)
 }
 
-/// The words of a question for a signature: its number, the algorithm, the blob and the input.
-pub(crate) fn text_of_signature(
+/// Appends the words of a question for a signature: its number, the algorithm, the blob and the input.
+pub(crate) fn put_signature(
     alloc: Global,
+    text: &mut TextBuffer,
     number: usize,
     algorithm: &str,
     blob: &[u8],
     input: &[u8],
-) -> Result<String, Stop> {
-    let words = format!(in alloc; "signature {number} {algorithm}")?;
-    text_with(alloc, &words, &[blob, input])
+) {
+    write!(text, "signature {number} {algorithm}");
+    put_parts(alloc, text, &[blob, input]);
 }
 
 /// Keeps a question for a signature.
@@ -115,8 +116,9 @@ fn keep_signature(
     blob: &[u8],
     input: &[u8],
 ) -> Result<(), Stop> {
-    let words = text_of_signature(questions.alloc, number, algorithm, blob, input)?;
-    questions.keep(&words)
+    let mut words = TextBuffer::new(questions.alloc);
+    put_signature(questions.alloc, &mut words, number, algorithm, blob, input);
+    questions.keep(&words.finish()?)
 }
 
 /// Keeps a notice.
@@ -126,29 +128,39 @@ fn keep_notice(notices: &StateData, notice: Notice<'_>) -> Result<(), Stop> {
 }
 
 /// The kind of a notice and its fields.
-fn words_of(alloc: Global, notice: Notice<'_>) -> Result<String, Stop> {
+fn words_of(alloc: Global, notice: Notice<'_>) -> Result<String, AllocError> {
+    let mut words = TextBuffer::new(alloc);
     match notice {
         Notice::Disconnect {
             reason,
             description,
             language,
         } => {
-            let words = format!(in alloc; "disconnect {reason}")?;
-            text_with(alloc, &words, &[description, language])
+            write!(words, "disconnect {reason}");
+            put_parts(alloc, &mut words, &[description, language]);
         }
-        Notice::Line { text } => text_with(alloc, "line", &[text]),
-        Notice::Debug { text, language } => text_with(alloc, "debug", &[text, language]),
-        Notice::Banner { text, language } => text_with(alloc, "banner", &[text, language]),
+        Notice::Line { text } => {
+            words.push_str("line");
+            put_parts(alloc, &mut words, &[text]);
+        }
+        Notice::Debug { text, language } => {
+            words.push_str("debug");
+            put_parts(alloc, &mut words, &[text, language]);
+        }
+        Notice::Banner { text, language } => {
+            words.push_str("banner");
+            put_parts(alloc, &mut words, &[text, language]);
+        }
         Notice::Failure {
             methods,
             partial_success,
         } => {
-            let mut text = String::from_str(alloc, "failure")?;
-            put_names(&mut text, methods)?;
-            put_word(&mut text, yes_or_no(partial_success))?;
-            Ok(text)
+            words.push_str("failure");
+            put_names(&mut words, methods);
+            put_word(&mut words, yes_or_no(partial_success));
         }
     }
+    words.finish()
 }
 
 /// Decisions of which is kept what they are asked and told.

@@ -7,7 +7,6 @@ use crate::below_messages::judge_message;
 use crate::below_packets::judge_packets;
 use crate::below_suites::judge_suite;
 use crate::below_types::{judge_parsing, judge_putting, judge_reading};
-use crate::names::Names;
 use crate::stop::Stop;
 use crate::terms::bytes_of;
 use crate::texts::wrong;
@@ -15,6 +14,7 @@ use crate::words::Line;
 use sshlabsuites::{KemSuite, LabSuite};
 use sshpacket::KeysElsewhere;
 use sshsuite::DeployedSuite;
+use sshterms::Names;
 use std::alloc::Global;
 
 /// Whether the word begins an act below the endpoint.

@@ -1,6 +1,5 @@
 //! Rows of choices, guesses and strictness.
 
-use crate::names::Names;
 use crate::stop::Stop;
 use crate::terms::bytes_of;
 use crate::texts::{flag_of, same_text, wrong, yes_or_no};
@@ -8,6 +7,7 @@ use crate::words::{Line, split_word};
 use sshlabsuites::LabSuite;
 use sshmsg::{KexInit, Message, MsgFault, read};
 use sshneg::{Chosen, Side, choose, guess_right, strict_of};
+use sshterms::Names;
 use std::alloc::{AllocError, Global};
 
 /// Judges what is chosen over two payloads, the client's first.

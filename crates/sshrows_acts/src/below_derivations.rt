@@ -4,13 +4,13 @@ ghost use Rattle.std.specs.Prelude.{◌<◌, ◌^◌, length};
 
 use crate::below_choices::role_of;
 use crate::below_texts::text_with;
-use crate::names::Names;
 use crate::stop::Stop;
 use crate::terms::bytes_of;
 use crate::texts::{same_bytes, same_text, wrong};
 use crate::words::{Line, split_word};
 use sshlabsuites::LabSuite;
 use sshneg::{Exchange, KeyMaterial, Side, exchange_input, keys_of, signed_request};
+use sshterms::Names;
 use sshwire::as_name;
 use std::alloc::Global;
 
@@ -175,5 +175,5 @@ fn text_of_keys(
         session: part(parts, 3),
     };
     let keys = keys_of(alloc, &LabSuite, &material, sender, cipher, mac)?;
-    text_with(alloc, mac, &[keys.iv(), keys.enc(), keys.mac_key()])
+    Ok(text_with(alloc, mac, &[keys.iv(), keys.enc(), keys.mac_key()])?)
 }

@@ -2,12 +2,12 @@
 
 use crate::below_texts::code_of_wire;
 use crate::line_readers::{Answer, ReadsLines, Standing, Version};
-use crate::names::Names;
 use crate::refusals::stopped;
 use crate::stop::Stop;
 use crate::terms::{bytes_of, count_of};
 use crate::texts::{number_of, same_bytes, same_count, same_text, shows, wrong, yes_or_no};
 use crate::words::{Line, split_word};
+use sshterms::Names;
 use sshwire::{LineForm, LineReader, PeerLineReader, ReadBy, WireFault};
 use std::alloc::Global;
 

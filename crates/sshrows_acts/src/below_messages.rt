@@ -2,13 +2,13 @@
 
 use crate::below_texts::code_of_message;
 use crate::below_told::text_of_message;
-use crate::names::Names;
 use crate::refusals::{refused, vector};
 use crate::stop::Stop;
 use crate::terms::bytes_of;
 use crate::texts::{BEFORE, same_text, stands_after, wrong};
 use crate::words::{Line, split_word};
 use sshmsg::{Message, MsgFault, read_exchange, write};
+use sshterms::Names;
 use sshwire::ShareForm;
 use std::alloc::Global;
 

@@ -2,13 +2,13 @@
 
 use crate::below_texts::code_of_packet;
 use crate::below_written::{judge_written, keys_of};
-use crate::names::Names;
 use crate::refusals::stopped;
 use crate::stop::Stop;
-use crate::terms::{bytes_of, count_of, put_string};
+use crate::terms::{bytes_of, count_of};
 use crate::texts::{flag_of, same_bytes, same_count, same_text, shows, wrong};
 use crate::words::{Line, split_word};
 use sshpacket::{PacketFault, PacketReader, PacketStep, Suite};
+use sshterms::{Names, put_string};
 use std::alloc::Global;
 
 /// A reader of packets that is judged, and what is written beside it.

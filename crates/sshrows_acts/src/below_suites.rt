@@ -4,12 +4,12 @@ ghost use Rattle.std.specs.Prelude.{◌<◌, ◌^◌, IfOk, length};
 ghost use Rattle.sshwire.specs.Types.{IsName};
 
 use crate::below_written::keys_of;
-use crate::names::Names;
 use crate::stop::Stop;
 use crate::terms::bytes_of;
 use crate::texts::{number_of, same_bytes, same_text, wrong, yes_or_no};
 use crate::words::{Line, split_word};
 use sshpacket::{Keys, Response, Suite};
+use sshterms::Names;
 use sshwire::as_name;
 use std::alloc::Global;
 

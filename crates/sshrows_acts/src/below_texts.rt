@@ -3,42 +3,43 @@
 use crate::stop::Stop;
 use sshmsg::MsgFault;
 use sshpacket::PacketFault;
-use sshwire::{NameList, WireFault};
-use std::alloc::Global;
+use sshwire::{NameList, TextBuffer, WireFault};
+use std::alloc::{AllocError, Global};
 
 /// Appends a blank and the bytes in digits; `-` is none.
-pub(crate) fn put_digits(alloc: Global, text: &mut String, bytes: &[u8]) -> Result<(), Stop> {
-    text.push_str(" ")?;
+pub(crate) fn put_digits(alloc: Global, text: &mut TextBuffer, bytes: &[u8]) {
+    text.push_str(" ");
     if bytes.is_empty() {
-        text.push_str("-")?;
-        return Ok(());
+        text.push_str("-");
+    } else {
+        text.push_made(hex::encode(alloc, bytes));
     }
-    let digits = hex::encode(alloc, bytes)?;
-    text.push_str(&digits)?;
-    Ok(())
 }
 
 /// Appends a blank, `'`, and the names with commas between.
-pub(crate) fn put_names(text: &mut String, list: &NameList) -> Result<(), Stop> {
-    text.push_str(" '")?;
-    let mut is_first = true;
-    for name in list.names() {
-        if !is_first {
-            text.push_str(",")?;
+pub(crate) fn put_names(text: &mut TextBuffer, list: &NameList) {
+    text.push_str(" '");
+    for (place, name) in list.names().enumerate() {
+        if place > 0 {
+            text.push_str(",");
         }
-        text.push_str(name)?;
-        is_first = false;
+        text.push_str(name);
     }
-    Ok(())
+}
+
+/// Appends the bytes of each part in digits, a blank before each.
+pub(crate) fn put_parts(alloc: Global, text: &mut TextBuffer, parts: &[&[u8]]) {
+    for part in parts {
+        put_digits(alloc, text, part);
+    }
 }
 
 /// These words, and the bytes of each part after them in digits.
-pub(crate) fn text_with(alloc: Global, words: &str, parts: &[&[u8]]) -> Result<String, Stop> {
-    let mut text = String::from_str(alloc, words)?;
-    for part in parts {
-        put_digits(alloc, &mut text, part)?;
-    }
-    Ok(text)
+pub(crate) fn text_with(alloc: Global, words: &str, parts: &[&[u8]]) -> Result<String, AllocError> {
+    let mut text = TextBuffer::new(alloc);
+    text.push_str(words);
+    put_parts(alloc, &mut text, parts);
+    text.finish()
 }
 
 /// The code of a fault of data types and lines.

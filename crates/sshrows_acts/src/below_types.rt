@@ -1,15 +1,15 @@
 //! Rows of data types.
 
 use crate::below_texts::{code_of_wire, put_names, text_with};
-use crate::names::Names;
 use crate::refusals::{stopped, vector};
 use crate::stop::Stop;
 use crate::terms::bytes_of;
 use crate::texts::{flag_of, number_of, same_bytes, same_text, wrong, yes_or_no};
 use crate::words::{Line, split_word};
+use sshterms::Names;
 use sshwire::{
-    BorrowedNameList, Mpint, NameList, Reader, VersionLine, WireFault, as_name, put_boolean,
-    put_mpint, put_string, put_u32,
+    BorrowedNameList, Mpint, NameList, Reader, TextBuffer, VersionLine, WireFault, as_name,
+    put_boolean, put_mpint, put_string, put_u32,
 };
 use std::alloc::Global;
 
@@ -58,7 +58,7 @@ fn text_of_call(alloc: Global, reader: &mut Reader<'_>, line: &Line<'_>) -> Resu
         "u32" => told_number(alloc, reader.u32()),
         "string" => told_bytes(alloc, "string", reader.string()),
         "mpint" => told_bytes(alloc, "mpint", reader.mpint().map(|number| number.body())),
-        "rest" => text_with(alloc, "rest", &[reader.rest()]),
+        "rest" => Ok(text_with(alloc, "rest", &[reader.rest()])?),
         _ => text_of_list_call(alloc, reader, line, call),
     }
 }
@@ -113,7 +113,7 @@ fn told_bytes(
     found: Result<&[u8], WireFault>,
 ) -> Result<String, Stop> {
     match found {
-        Ok(bytes) => text_with(alloc, call, &[bytes]),
+        Ok(bytes) => Ok(text_with(alloc, call, &[bytes])?),
         Err(fault) => refusal(alloc, call, fault),
     }
 }
@@ -122,9 +122,10 @@ fn told_bytes(
 fn told_names(alloc: Global, found: Result<NameList, WireFault>) -> Result<String, Stop> {
     match found {
         Ok(list) => {
-            let mut text = String::from_str(alloc, "name_list")?;
-            put_names(&mut text, &list)?;
-            Ok(text)
+            let mut text = TextBuffer::new(alloc);
+            text.push_str("name_list");
+            put_names(&mut text, &list);
+            Ok(text.finish()?)
         }
         Err(fault) => refusal(alloc, "name_list", fault),
     }

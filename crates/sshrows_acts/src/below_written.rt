@@ -3,13 +3,13 @@
 ghost use Rattle.std.specs.Prelude.{◌≡◌, ◌<◌, ◌≤◌, length, true};
 ghost use Rattle.sshwire.specs.declared.limits.TheConstants.{PAYLOAD_LIMIT};
 
-use crate::names::Names;
 use crate::refusals::{stopped, vector};
 use crate::stop::Stop;
 use crate::terms::bytes_of;
 use crate::texts::{BEFORE, number_of, same_bytes, stands_after, wrong};
 use crate::words::{Line, split_word};
 use sshpacket::{KeyParts, Keys, Suite, write_clear, write_next, write_sealed};
+use sshterms::Names;
 use sshwire::{PAYLOAD_LIMIT, as_name};
 use std::alloc::Global;
 

@@ -2,7 +2,6 @@
 
 use crate::endpoints::{Row, Way, judge_endpoint};
 use crate::generous::Generous;
-use crate::names::Names;
 use crate::parts::{client_by, server_by};
 use crate::stop::Stop;
 use crate::terms::bytes_of;
@@ -13,6 +12,7 @@ use sshlabsuites::{KemSuite, LabSuite};
 use sshmsg::{KexInit, Message, write};
 use sshpacket::{Inventory, KeysElsewhere};
 use sshsuite::DeployedSuite;
+use sshterms::Names;
 use std::alloc::Global;
 
 /// Judges a config of a client or a server: lines that change its parts, and after them what comes of it.

@@ -1,10 +1,9 @@
 //! What a row of an endpoint does, step by step.
 
-use crate::asked::text_of_signature;
-use crate::below_texts::text_with;
+use crate::asked::put_signature;
+use crate::below_texts::put_parts;
 use crate::endpoints::Subject;
 use crate::judged::{Judged, Refused, Reply};
-use crate::names::Names;
 use crate::recorded::judge_record;
 use crate::refusals::{is_out_of_memory, refused_sending};
 use crate::stop::Stop;
@@ -15,7 +14,9 @@ use crate::texts::{
 };
 use crate::words::{Line, split_word};
 use sshcore::{ChosenNames, Phase, Proof, Question};
-use std::alloc::Global;
+use sshterms::Names;
+use sshwire::TextBuffer;
+use std::alloc::{AllocError, Global};
 use std::cell::Cell;
 use std::mem;
 
@@ -278,18 +279,19 @@ fn folded(before: usize, number: usize) -> usize {
 }
 
 /// What it waits for, whether both sides are strict, and the names of the algorithms, or `none` where nothing is chosen.
-fn text_of_course<E: Judged>(alloc: Global, endpoint: &E) -> Result<String, Stop> {
+fn text_of_course<E: Judged>(alloc: Global, endpoint: &E) -> Result<String, AllocError> {
     let (_, phase, strict) = endpoint.stands();
-    let mut text = String::from_str(alloc, word_of_phase(phase))?;
+    let mut text = TextBuffer::new(alloc);
+    text.push_str(word_of_phase(phase));
     let strict = match strict {
         None => "none",
         Some(strict) => yes_or_no(strict),
     };
-    put_word(&mut text, strict)?;
+    put_word(&mut text, strict);
     if let Some(names) = endpoint.algorithms() {
-        put_chosen(&mut text, &names)?;
+        put_chosen(&mut text, &names);
     }
-    Ok(text)
+    text.finish()
 }
 
 /// The word for what is waited for.
@@ -304,26 +306,26 @@ fn word_of_phase(phase: Phase) -> &'static str {
 }
 
 /// Appends the names of the algorithms.
-fn put_chosen(text: &mut String, names: &ChosenNames<'_>) -> Result<(), Stop> {
-    put_word(text, names.kex)?;
-    put_word(text, names.host_key)?;
-    put_word(text, names.encryption_client_to_server)?;
-    put_word(text, names.encryption_server_to_client)?;
-    put_word(text, names.mac_client_to_server)?;
-    put_word(text, names.mac_server_to_client)?;
-    put_word(text, names.compression_client_to_server)?;
-    put_word(text, names.compression_server_to_client)?;
-    Ok(())
+fn put_chosen(text: &mut TextBuffer, names: &ChosenNames<'_>) {
+    put_word(text, names.kex);
+    put_word(text, names.host_key);
+    put_word(text, names.encryption_client_to_server);
+    put_word(text, names.encryption_server_to_client);
+    put_word(text, names.mac_client_to_server);
+    put_word(text, names.mac_server_to_client);
+    put_word(text, names.compression_client_to_server);
+    put_word(text, names.compression_server_to_client);
 }
 
 /// A question: `host_key` with the algorithm and the blob, `user` with the number, the user, the service and the proof, or
 /// `signature` with the number, the algorithm, the blob and the input; or `nothing`.
-fn text_of_question(alloc: Global, question: &Option<Question<'_>>) -> Result<String, Stop> {
+fn text_of_question(alloc: Global, question: &Option<Question<'_>>) -> Result<String, AllocError> {
+    let mut text = TextBuffer::new(alloc);
     match question {
-        None => Ok(String::from_str(alloc, "nothing")?),
+        None => text.push_str("nothing"),
         Some(Question::HostKey { algorithm, blob }) => {
-            let words = format!(in alloc; "host_key {algorithm}")?;
-            text_with(alloc, &words, &[blob])
+            write!(text, "host_key {algorithm}");
+            put_parts(alloc, &mut text, &[blob]);
         }
         Some(
             Question::User {
@@ -333,8 +335,8 @@ fn text_of_question(alloc: Global, question: &Option<Question<'_>>) -> Result<St
                 proof,
             },
         ) => {
-            let words = format!(in alloc; "user {number} {user} {service}")?;
-            text_of_proof(alloc, &words, proof)
+            write!(text, "user {number} {user} {service}");
+            put_proof(alloc, &mut text, proof);
         }
         Some(
             Question::Signature {
@@ -343,21 +345,22 @@ fn text_of_question(alloc: Global, question: &Option<Question<'_>>) -> Result<St
                 blob,
                 input,
             },
-        ) => text_of_signature(alloc, *number, algorithm, blob, input),
+        ) => put_signature(alloc, &mut text, *number, algorithm, blob, input),
     }
+    text.finish()
 }
 
-/// These words, and a proof: `none`, `password` with its bytes, or `key` with the algorithm and the blob.
-fn text_of_proof(alloc: Global, words: &str, proof: &Proof<'_>) -> Result<String, Stop> {
+/// Appends a proof: `none`, `password` with its bytes, or `key` with the algorithm and the blob.
+fn put_proof(alloc: Global, text: &mut TextBuffer, proof: &Proof<'_>) {
     match proof {
-        Proof::None => Ok(format!(in alloc; "{words} none")?),
+        Proof::None => text.push_str(" none"),
         Proof::Password(password) => {
-            let words = format!(in alloc; "{words} password")?;
-            text_with(alloc, &words, &[password])
+            text.push_str(" password");
+            put_parts(alloc, text, &[password]);
         }
         Proof::Key { algorithm, blob } => {
-            let words = format!(in alloc; "{words} key {algorithm}")?;
-            text_with(alloc, &words, &[blob])
+            write!(text, " key {algorithm}");
+            put_parts(alloc, text, &[blob]);
         }
     }
 }

@@ -6,7 +6,6 @@ use crate::endpoint_steps::step;
 use crate::handed::judge_session;
 use crate::judged::{Deciding, Judged, Waiting};
 use crate::linked::{judge_link, link_of, seed_of};
-use crate::names::Names;
 use crate::refusals::refused_sending;
 use crate::renewing::Again;
 use crate::stop::Stop;
@@ -17,6 +16,7 @@ use sshcore::{
     Session,
 };
 use sshpacket::Suite;
+use sshterms::Names;
 use sshwire::Memory;
 use std::alloc::Global;
 

@@ -25,7 +25,6 @@ mod handed;
 mod judged;
 mod line_readers;
 mod linked;
-mod names;
 mod parts;
 mod recorded;
 mod refusals;
@@ -40,9 +39,9 @@ pub use below::{is_below, judge_below};
 pub use configs::judge_config;
 pub use endpoints::{Configures, Row, Way, judge_endpoint, judge_waiting};
 pub use generous::Generous;
-pub use names::Names;
 pub use refusals::{is_out_of_memory, refused};
 pub use signing::{Signing, signing_of};
+pub use sshterms::Names;
 pub use stop::{Refusal, Stop, Told, Wrong};
 pub use terms::{bytes_of, digest_of, xor_of};
 pub use texts::{

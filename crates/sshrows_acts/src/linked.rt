@@ -1,7 +1,6 @@
 //! What a session goes on with: payloads that a link seals and opens.
 
 use crate::below_texts::code_of_packet;
-use crate::names::Names;
 use crate::refusals::{refused, stopped, vector};
 use crate::stop::Stop;
 use crate::terms::bytes_of;
@@ -9,6 +8,7 @@ use crate::texts::{BEFORE, same_bytes, same_text, shows, stands_after, wrong};
 use crate::words::{Line, split_word};
 use sshcore::{Link, LinkFault, Session};
 use sshpacket::{PacketFault, PacketStep, Suite};
+use sshterms::Names;
 use std::alloc::Global;
 
 /// The seed of padding in `link TERMS`, the first of these lines; any where there are none.

@@ -1,12 +1,12 @@
 //! Parts of configs, by lines whose terms say what no line of a scenario can.
 
-use crate::names::Names;
 use crate::stop::Stop;
 use crate::terms::{bytes_of, text_of};
 use crate::texts::{number_of, wrong};
 use crate::words::{Line, split_word};
 use sshcore::{Attempt, ClientParts, Credential, HostKey, PeerReading, ServerParts, SideParts};
 use sshlabsuites::{lab_client_parts, lab_server_parts};
+use sshterms::Names;
 use std::alloc::Global;
 
 /// The parts of the lab's client, changed by lines.

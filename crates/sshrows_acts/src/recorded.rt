@@ -3,11 +3,11 @@
 use crate::endpoint_steps::stopped_by;
 use crate::endpoints::Subject;
 use crate::judged::{Judged, Refused};
-use crate::names::Names;
 use crate::stop::Stop;
 use crate::terms::bytes_of;
 use crate::texts::{same_bytes, same_text, wrong};
 use crate::words::{Line, split_word};
+use sshterms::Names;
 use std::alloc::{AllocError, Global};
 
 /// Judges a line of records: `record`, `spoilt`, `cuts` or `takes`.

@@ -3,12 +3,12 @@
 ghost use Rattle.std.specs.Prelude.{◌≡◌, ◌==◌, IfOk, None, if◌then◌else◌, option_map};
 
 use crate::endpoints::Row;
-use crate::names::Names;
 use crate::stop::Stop;
 use crate::terms::bytes_of;
 use crate::texts::number_of;
 use crate::words::{Line, split_word};
 use sshcore::{Decisions, Notice, Proof};
+use sshterms::Names;
 use sshwire::Memory;
 use std::alloc::Global;
 

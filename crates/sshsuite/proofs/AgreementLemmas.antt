@@ -9,7 +9,7 @@ use Rattle.std.specs.Prelude.{◌&&◌, None, Some}
 use Rattle.sshsuite.specs.Group14.{bytes_high, generator, group14_share, group14_shared, is_positive_body, is_within, number_body, number_high, peer_number, power, prime, secret_body, secret_with}
 use Rattle.sshsuite.specs.Group14Laws.{byte_is, length_high, prime_short, some_power}
 use Rattle.sshsuite.specs.MpintBody.{mpint_body}
-use Rattle.sshsuite.specs.Scalar.{number_in}
+use Rattle.sshcurve.specs.Scalar.{number_in}
 
 -- The number of the bytes of a number.
 split : (n w : ℕ) → 0 < w → n / w % 256 * w + n % w ≡ n % (w * 256)

@@ -3,13 +3,14 @@
 use Rattle.std.proofs.Common.{◌≡◌, ℕ, zero, suc, ◌+◌, ◌-◌, ◌*◌, ◌%◌, ◌^◌, ◌<◌, ◌≤◌, Bool, true, List, refl, arith, eqb, ltb}
 use Rattle.std.proofs.lemmas.Bool.{and_parts, eqb-true, ltb-true}
 use Rattle.std.specs.Prelude.{◌&&◌, slice_index}
-use Rattle.sshsuite.specs.Bits.{bit_at, word_at}
+use Rattle.sshcurve.specs.Bits.{bit_at, word_at}
 use Rattle.sshsuite.specs.Edwards25519.{add_row_to, add_rows_to, add_summand, add_where, multiply_base, summand_of, table_element, table_point}
 use Rattle.sshsuite.specs.FieldElement.{decode}
 use Rattle.sshsuite.specs.declared.edwards25519.Factors.{Factors}
-use Rattle.sshsuite.specs.EdwardsNumbers.{Coordinates, HasCoordinates, added, base_at, base_multiple, doubled, of_factors, row_to, rows_to, times_256}
-use Rattle.sshsuite.specs.FieldNumbers.{HasNumber, minus, plus, times}
-use Rattle.sshsuite.specs.FieldValues.{field, value}
+use Rattle.sshcurve.specs.EdwardsNumbers.{Coordinates, added, base_at, base_multiple, doubled, of_factors, row_to, rows_to, times_256}
+use Rattle.sshsuite.specs.PointNumbers.{HasCoordinates}
+use Rattle.sshsuite.specs.FieldValues.{HasNumber, value}
+use Rattle.sshcurve.specs.FieldNumbers.{minus, plus, times, field}
 use Rattle.sshsuite.proofs.EdwardsLemmas.{AreFactors, add_is, double_is, either, neutral_is, point_is, summand_is}
 use Rattle.sshsuite.proofs.TestLemmas.{all_below, at_each}
 

@@ -7,17 +7,18 @@ use Rattle.std.proofs.lemmas.Slice.Eq.{bytes_eq-Decides}
 use Rattle.std.specs.Int.{w64, from_le_bytes, to_le_bytes}
 use Rattle.std.specs.Prelude.{◌&&◌, Option, None, Some, replicate, slice_index}
 use Rattle.std.specs.Str.{bytes_eq}
-use Rattle.sshsuite.specs.Bits.{bytes_of_words, number_of_32, word_at}
+use Rattle.sshcurve.specs.Bits.{bytes_of_words, number_of_32, word_at}
 use Rattle.sshsuite.specs.Edwards25519.{d, decode_point, is_canonical, point_from, point_with, root, root_by, square_root_of_ratio}
 use Rattle.sshsuite.specs.FieldElement.{decode, encode, mul, none, squared, sub}
 use Rattle.sshsuite.specs.declared.edwards25519.Point.{Point}
 use Rattle.sshsuite.proofs.WordLemmas.{AreWords}
 use Rattle.sshsuite.proofs.FieldNumberLemmas.{add_number, decode_number, encode_number, mul_number, none_number, one_number, root_power_number, square_number, sub_number}
-use Rattle.sshsuite.specs.DecodingNumbers.{AreAlike, point_in, root_number, root_of, root_of_quotient, with_root, with_x}
-use Rattle.sshsuite.specs.EdwardsNumbers.{Coordinates, d_number}
-use Rattle.sshsuite.specs.FieldBytes.{bytes_of_number}
-use Rattle.sshsuite.specs.FieldNumbers.{HasNumber, minus, times}
-use Rattle.sshsuite.specs.FieldValues.{field, value}
+use Rattle.sshsuite.specs.PointNumbers.{AreAlike}
+use Rattle.sshcurve.specs.DecodingNumbers.{point_in, root_number, root_of, root_of_quotient, with_root, with_x}
+use Rattle.sshcurve.specs.EdwardsNumbers.{Coordinates, d_number}
+use Rattle.sshcurve.specs.FieldBytes.{bytes_of_number}
+use Rattle.sshsuite.specs.FieldValues.{HasNumber, value}
+use Rattle.sshcurve.specs.FieldNumbers.{minus, times, field}
 use Rattle.sshsuite.proofs.TestLemmas.{by_both}
 
 -- Bytes of numbers are as the numbers.

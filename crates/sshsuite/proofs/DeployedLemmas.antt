@@ -5,8 +5,9 @@ use Rattle.std.specs.Prelude.{◌&&◌, length, Option, None, Some, replicate}
 use Rattle.std.specs.Str.{bytes_eq}
 use Rattle.sshwire.specs.ByteLaws.{bytes_cons}
 use Rattle.sshwire.specs.Types.{IsBytes}
-use Rattle.sshsuite.specs.Bits.{number_of_32, word_at}
-use Rattle.sshsuite.specs.Curve25519.{base_point, clamped}
+use Rattle.sshcurve.specs.Bits.{number_of_32, word_at}
+use Rattle.sshsuite.specs.Curve25519.{base_point}
+use Rattle.sshcurve.specs.X25519Numbers.{clamped, x25519_number}
 use Rattle.sshsuite.specs.Deployed.{exponent_of, is_curve25519, is_group14, is_hybrid, scalar_of, share, shared, shared_secret}
 use Rattle.sshsuite.specs.Group14.{group14_share, group14_shared}
 use Rattle.sshsuite.specs.Hybrid.{hybrid_share, hybrid_shared}
@@ -15,10 +16,8 @@ use Rattle.sshsuite.proofs.DecodingLemmas.{same_number, zeros}
 use Rattle.sshsuite.proofs.WordLemmas.{are_words, zero_bytes}
 use Rattle.sshsuite.proofs.X25519Lemmas.{x25519_is}
 use Rattle.sshsuite.specs.DeployedNumbers.{share_bytes, shared_body}
-use Rattle.sshsuite.specs.FieldBytes.{bytes_of_number}
-use Rattle.sshsuite.specs.FieldNumbers.{times}
-use Rattle.sshsuite.specs.FieldValues.{field}
-use Rattle.sshsuite.specs.X25519Numbers.{x25519_number}
+use Rattle.sshcurve.specs.FieldBytes.{bytes_of_number}
+use Rattle.sshcurve.specs.FieldNumbers.{times, field}
 
 nine : number_of_32 base_point % 2 ^ 255 % field ≡ 9
 unfolding number_of_32 word_at

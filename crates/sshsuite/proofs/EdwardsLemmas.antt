@@ -3,16 +3,17 @@
 use Rattle.std.proofs.Common.{◌≡◌, ℕ, zero, suc, ◌+◌, ◌-◌, ◌*◌, ◌%◌, inl, inr, Bool, true, false, List, refl, sym, subst, ap, ap₂, ◌∙◌, arith, cond, eqb}
 use Rattle.std.proofs.lemmas.Bool.{and_parts, cases_Bool, eqb-true}
 use Rattle.std.specs.Prelude.{◌&&◌, slice_index}
-use Rattle.sshsuite.specs.Bits.{bit_at}
-use Rattle.sshsuite.specs.Edwards25519.{add_points, add_row_more, add_row_to, add_summand, add_where, double, encode_point, is_one, multiply, multiply_to, negate, neutral_factors, point_of_factors, summand_of, table_point, times_z, twice_d, with_sign}
+use Rattle.sshcurve.specs.Bits.{bit_at}
+use Rattle.sshsuite.specs.Edwards25519.{add_points, add_row_more, add_row_to, add_summand, add_where, double, encode_point, is_one, multiply, multiply_to, negate, neutral_factors, point_of_factors, summand_of, table_point, times_z, twice_d}
+use Rattle.sshcurve.specs.EdwardsNumbers.{with_sign, Coordinates, added, bytes_of_point, doubled, multiple, multiple_to, neutral_numbers, of_factors, opposite, twice_d_number}
 use Rattle.sshsuite.specs.FieldElement.{mul, none, one}
 use Rattle.sshsuite.specs.declared.edwards25519.Factors.{Factors}
 use Rattle.sshsuite.specs.declared.edwards25519.Point.{Point}
 use Rattle.sshsuite.specs.declared.edwards25519.Summand.{Summand}
 use Rattle.sshsuite.proofs.FieldNumberLemmas.{HasLoose, HasTight, add_number, difference_half, difference_number, encode_number, exchange, half_loose, inverse_number, loose_number, mul_number, mul_tight, none_number, none_tight, one_tight, products, square_tight, sub_number, sum_half, sum_number, tight_by, tight_half, tight_loose, tight_number}
-use Rattle.sshsuite.specs.EdwardsNumbers.{Coordinates, HasCoordinates, added, bytes_of_point, doubled, multiple, multiple_to, neutral_numbers, of_factors, opposite, twice_d_number}
-use Rattle.sshsuite.specs.FieldNumbers.{HasNumber, minus, plus, times}
-use Rattle.sshsuite.specs.FieldValues.{field, value}
+use Rattle.sshsuite.specs.PointNumbers.{HasCoordinates}
+use Rattle.sshsuite.specs.FieldValues.{HasNumber, value}
+use Rattle.sshcurve.specs.FieldNumbers.{minus, plus, times, field}
 
 twice_d_is : HasNumber twice_d twice_d_number
 twice_d_is = record { below = record { l0 = omega arith; l1 = omega arith; l2 = omega arith; l3 = omega arith; l4 = omega arith }; number = refl }

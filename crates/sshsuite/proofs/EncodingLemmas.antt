@@ -4,13 +4,14 @@
 use Rattle.std.proofs.Common.{◌≡◌, ℕ, ◌+◌, ◌*◌, ◌/◌, ◌%◌, ◌^◌, ◌<◌, ◌++◌, List, [], ◌∷◌, refl, ap, ap₂, ◌∙◌, arith}
 use Rattle.std.specs.Int.{w64, to_le_bytes}
 use Rattle.std.specs.Prelude.{bit_or, slice_index}
-use Rattle.sshsuite.specs.Bits.{bytes_of_words, number_of_32, word_at}
+use Rattle.sshcurve.specs.Bits.{bytes_of_words, number_of_32, word_at}
 use Rattle.sshsuite.specs.FieldElement.{add, canonical, decode, encode, none, packed}
 use Rattle.sshsuite.proofs.FieldLemmas.{AreTight, add_tight, below_tight, bounded, least, radix}
 use Rattle.sshsuite.proofs.LimbLemmas.{reduced_value, wider}
 use Rattle.sshsuite.proofs.WordLemmas.{AreWords, or_high}
-use Rattle.sshsuite.specs.FieldBytes.{bytes_of_number}
-use Rattle.sshsuite.specs.FieldValues.{AreBelow, field, value, weighed}
+use Rattle.sshcurve.specs.FieldBytes.{bytes_of_number}
+use Rattle.sshsuite.specs.FieldValues.{AreBelow, value, weighed}
+use Rattle.sshcurve.specs.FieldNumbers.{field}
 
 -- Bytes to limbs.
 limb1 : (x y : ℕ) → x < 2 ^ 64 → bit_or (x / 2 ^ 51) (y * 2 ^ 13 % 2 ^ 64) % 2 ^ 51 ≡ y % 2 ^ 38 * 2 ^ 13 + x / 2 ^ 51

@@ -5,7 +5,8 @@ use Rattle.std.proofs.Common.{◌≡◌, ℕ, ◌+◌, ◌*◌, ◌/◌, ◌%◌
 use Rattle.std.specs.Prelude.{slice_index}
 use Rattle.sshsuite.specs.FieldElement.{above, add, carried, carried_once, dot, less, limbs_of, loose_difference, loose_sum, mul, scaled, squared, sub, three, with_carry}
 use Rattle.sshsuite.specs.Limbs.{add64, add128, mul64, mul128}
-use Rattle.sshsuite.specs.FieldValues.{AreBelow, field, value, weighed}
+use Rattle.sshsuite.specs.FieldValues.{AreBelow, value, weighed}
+use Rattle.sshcurve.specs.FieldNumbers.{field}
 use Rattle.sshsuite.proofs.LimbLemmas.{IsRadix, at_places, below, dotted, moved, passed, times_small, wider}
 
 -- a sum that is taken modulo 2^128 and isn't more

@@ -3,15 +3,15 @@
 use Rattle.std.proofs.Common.{◌≡◌, ℕ, zero, suc, ◌+◌, ◌-◌, ◌*◌, ◌/◌, ◌%◌, ◌^◌, ◌<◌, ◌≤◌, List, refl, sym, ap, ◌∙◌, arith}
 use Rattle.std.proofs.Math.Nat.{pow-suc, pow-zero}
 use Rattle.std.proofs.lemmas.Nat.{pow-add}
-use Rattle.sshsuite.specs.Bits.{number_of_32}
+use Rattle.sshcurve.specs.Bits.{number_of_32}
 use Rattle.sshsuite.specs.FieldElement.{add, decode, eleventh, encode, inverse, loose_difference, loose_sum, mul, none, one, root_power, scaled, squared, squares, sub, to_50, to_250}
 use Rattle.sshsuite.proofs.EncodingLemmas.{decode_value, encode_value}
 use Rattle.sshsuite.proofs.WordLemmas.{AreWords}
 use Rattle.sshsuite.proofs.FieldLemmas.{add_value, difference_loose, mul_loose, multiple, scaled_loose, square_loose, sub_value, sum_loose, tight}
 use Rattle.sshsuite.proofs.LimbLemmas.{wider}
-use Rattle.sshsuite.specs.FieldBytes.{bytes_of_number}
-use Rattle.sshsuite.specs.FieldNumbers.{HasNumber, minus, plus, power, reciprocal, times}
-use Rattle.sshsuite.specs.FieldValues.{AreBelow, field, value}
+use Rattle.sshcurve.specs.FieldBytes.{bytes_of_number}
+use Rattle.sshsuite.specs.FieldValues.{HasNumber, AreBelow, value}
+use Rattle.sshcurve.specs.FieldNumbers.{minus, plus, power, reciprocal, times, field}
 
 sums : (x y m n : ℕ) → x % field ≡ m → y % field ≡ n → (x + y) % field ≡ (m + n) % field
 sums x y m n h k = omega arith

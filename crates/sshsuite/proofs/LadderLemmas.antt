@@ -1,7 +1,7 @@
 -- The loop of the ladder keeps its points in the order that the last bit gave.
 
 use Rattle.std.proofs.Common.{◌≡◌, ℕ, zero, suc, ◌+◌, ◌-◌, ◌%◌, ◌<◌, List, refl, sym, ap, ◌∙◌, arith}
-use Rattle.sshsuite.specs.Bits.{bit_at}
+use Rattle.sshcurve.specs.Bits.{bit_at}
 use Rattle.sshsuite.specs.Curve25519.{ladder, ladder_bit, ladder_more, ladder_step, small_of, turned}
 use Rattle.sshsuite.specs.declared.curve25519.LadderState.{LadderState}
 

@@ -41,3 +41,7 @@ pub mod ByteNumberLemmas
 pub mod RsaLemmas
 pub mod RsaLawLemmas
 pub mod AgreementLemmas
+pub mod CurveAgreementLemmas
+pub mod OwnSignatureLemmas
+pub mod HybridAgreementLemmas
+pub mod HybridNoiseLemmas

@@ -7,7 +7,7 @@ use Rattle.std.specs.Int.Bits.{or_zero_r}
 use Rattle.std.specs.Prelude.{bit_and, bit_or, replicate, slice_index}
 use Rattle.sshwire.specs.ByteLaws.{bytes_append, bytes_cons, bytes_dropped, bytes_taken}
 use Rattle.sshwire.specs.Types.{IsBytes}
-use Rattle.sshsuite.specs.Bits.{word_at}
+use Rattle.sshcurve.specs.Bits.{word_at}
 use Rattle.sshsuite.specs.FieldValues.{AreBelow}
 use Rattle.sshsuite.specs.Limbs.{add64, mul64}
 use Rattle.sshsuite.specs.Poly1305.{accumulated, add, block_at, block_limbs, canonical, carried, clamped_r, dot, limbs_of, mul, packed, s_of, sum_to, tag_of}

@@ -5,10 +5,10 @@ use Rattle.std.proofs.Math.Nat.{mod-eq_of_lt, pow-suc, pow-zero}
 use Rattle.std.proofs.lemmas.Nat.{mod_below, mul-mod, mul-mod_first, mul-mod_second, pow-add}
 use Rattle.std.proofs.lemmas.Bool.{and_parts, le-ltb, ltb-true}
 use Rattle.std.specs.Prelude.{◌&&◌, Option, None, Some}
-use Rattle.sshsuite.specs.Bits.{bit_at}
+use Rattle.sshcurve.specs.Bits.{bit_at}
 use Rattle.sshsuite.specs.Group14.{generator, is_positive_body, is_within, number_high, peer_number, power, prime}
 use Rattle.sshsuite.specs.LongNumbers.{number_of, number_to, weight}
-use Rattle.sshsuite.specs.Scalar.{number_in, number_to as bits_to}
+use Rattle.sshcurve.specs.Scalar.{number_in, number_to as bits_to}
 use Rattle.sshsuite.specs.declared.group14.TheConstants.{ONE, PRIME, PRIME_LESS_ONE, TWO, UNIT, UNIT_SQUARE}
 
 -- The constants.

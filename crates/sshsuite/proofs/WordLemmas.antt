@@ -5,7 +5,7 @@ use Rattle.std.proofs.lemmas.Nat.{or_comm, or_shifted}
 use Rattle.std.specs.Prelude.{bit_or, replicate}
 use Rattle.sshwire.specs.ByteLaws.{bytes_cons, bytes_none}
 use Rattle.sshwire.specs.Types.{IsBytes}
-use Rattle.sshsuite.specs.Bits.{word_at}
+use Rattle.sshcurve.specs.Bits.{word_at}
 
 -- the bits of two words beside each other
 pub or_high : (a k b : ℕ) → b < 2 ^ k → bit_or b (a * 2 ^ k) ≡ a * 2 ^ k + b

@@ -3,16 +3,16 @@
 use Rattle.std.proofs.Common.{◌≡◌, ℕ, zero, suc, ◌-◌, ◌%◌, ◌^◌, ◌<◌, inl, inr, Bool, true, false, List, sym, ap, subst, arith, cond, eqb, ltb}
 use Rattle.std.proofs.lemmas.Bool.{and_parts, cases_Bool, eqb-true, ltb-true}
 use Rattle.std.specs.Prelude.{◌&&◌, slice_index, Option, None, Some}
-use Rattle.sshsuite.specs.Bits.{bit_at, number_of_32}
-use Rattle.sshsuite.specs.Curve25519.{affine, clamped, ladder, ladder_bit, ladder_start, ladder_step, small_of, swapped, times_first, x25519}
+use Rattle.sshcurve.specs.Bits.{bit_at, number_of_32}
+use Rattle.sshsuite.specs.Curve25519.{affine, ladder, ladder_bit, ladder_start, ladder_step, small_of, swapped, times_first, x25519}
+use Rattle.sshcurve.specs.X25519Numbers.{clamped, Ladder, climb, exchanged, step, x25519_number}
 use Rattle.sshsuite.specs.FieldElement.{decode, scaled}
 use Rattle.sshsuite.specs.declared.curve25519.LadderState.{LadderState}
 use Rattle.sshsuite.proofs.WordLemmas.{AreWords}
 use Rattle.sshsuite.proofs.FieldNumberLemmas.{HasLoose, HasTight, decode_tight, difference_half, encode_number, exchange, half_loose, inverse_number, mul_number, mul_tight, none_tight, one_tight, scaled_tight, square_tight, sum_half, tight_by, tight_loose, tight_number}
-use Rattle.sshsuite.specs.FieldBytes.{bytes_of_number}
-use Rattle.sshsuite.specs.FieldNumbers.{minus, plus, times}
-use Rattle.sshsuite.specs.FieldValues.{field, weighed}
-use Rattle.sshsuite.specs.X25519Numbers.{Ladder, climb, exchanged, step, x25519_number}
+use Rattle.sshcurve.specs.FieldBytes.{bytes_of_number}
+use Rattle.sshcurve.specs.FieldNumbers.{minus, plus, times, field}
+use Rattle.sshsuite.specs.FieldValues.{weighed}
 
 -- the limbs are those of the variables
 pub record HasNumbers (s : LadderState) (t : Ladder) : Type 0 where

@@ -1,8 +1,8 @@
 -- Sealing by aes128-ctr and aes256-ctr has the laws.
 
-use Rattle.std.proofs.Common.{◌≡◌, ℕ, zero, suc, ◌+◌, ◌-◌, ◌*◌, ◌/◌, ◌≤◌, Bool, true, false, List, [], ◌++◌, length, take, drop, refl, sym, ap, ◌∙◌, arith, cond, ltb}
-use Rattle.std.proofs.lemmas.Bool.{cases_Bool, cond_both, le-ltb, ltb-false}
-use Rattle.std.proofs.lemmas.List.{length-append, length-replicate, length-take-le, take-append-le, take-take}
+use Rattle.std.proofs.Common.{◌≡◌, ℕ, suc, ◌+◌, ◌-◌, ◌/◌, ◌≤◌, Bool, true, false, List, [], ◌++◌, length, take, drop, refl, sym, ap, ◌∙◌, arith, cond, ltb}
+use Rattle.std.proofs.lemmas.Bool.{cond_both, le-ltb, ltb-false}
+use Rattle.std.proofs.lemmas.List.{length-append, length-take-le, take-append-le, take-take}
 use Rattle.std.specs.Prelude.{Some, replicate}
 use Rattle.std.specs.Str.{bytes_eq}
 use Rattle.sha2.proofs.Facts256.{length-sha256}
@@ -15,7 +15,7 @@ use Rattle.sshpacket.specs.Suite.{Keeps}
 use Rattle.sshsuite.specs.CipherNames.{is_short_key, keys_by}
 use Rattle.sshsuite.specs.CounterMode.{stream_to}
 use Rattle.sshsuite.specs.CounterModeLaws.{bytes_stream, clear_front, length_stream, stream_front}
-use Rattle.sshsuite.specs.Ctr.{checked, clear_length, counter_of, covers_sealed, crossed, head, is_by_sha512, mask, seal, tag, tag_length, tag_over, unseal}
+use Rattle.sshsuite.specs.Ctr.{checked, counter_of, covers_sealed, crossed, head, is_by_sha512, mask, seal, tag, tag_length, tag_over, unseal}
 use Rattle.sshsuite.specs.HashBytes.{bytes_sha256, bytes_sha512}
 use Rattle.sshsuite.specs.Hmac.{hmac, hmac_sha256, hmac_sha512}
 use Rattle.sshwire.specs.Masks.{bytes_xored, length_xored, xored, xored_more, xored_take, xored_twice}

@@ -1,8 +1,9 @@
 -- The function X25519 (RFC 7748 section 5), in the order of its steps.
 
 use Rattle.std.proofs.Common.{◌≡◌, add-one, refl}
-use Rattle.std.specs.Prelude.{ℕ, zero, suc, ◌+◌, ◌-◌, ◌%◌, ◌^◌, ◌==◌, ◌&&◌, nat_lt, List, ◌∷◌, slice_index, slice_set, if◌then◌else◌, Option, None, Some, replicate}
-use Rattle.sshsuite.specs.Bits.{bit_at}
+use Rattle.std.specs.Prelude.{ℕ, zero, suc, ◌+◌, ◌-◌, ◌^◌, ◌==◌, ◌&&◌, nat_lt, List, ◌∷◌, slice_index, if◌then◌else◌, Option, None, Some, replicate}
+use Rattle.sshcurve.specs.Bits.{bit_at}
+use Rattle.sshcurve.specs.X25519Numbers.{clamped}
 use Rattle.sshsuite.specs.FieldElement.{decode, encode, inverse, loose_difference, loose_sum, mul, none, one, scaled, squared}
 use Rattle.sshsuite.specs.declared.curve25519.LadderState.{LadderState}
 
@@ -49,12 +50,6 @@ ladder_step r x1 small =
 -- one bit of the ladder: a step on the points, in the other order where the bit is 1
 unfoldable pub ladder_bit : LadderState → List ℕ → ℕ → LadderState
 ladder_bit r x1 bit = turned (ladder_step (turned r bit) x1 (small_of x1)) bit
-
--- a scalar of these bytes: the three lowest bits and the highest are left out, and bit 254 is set
-unfoldable pub clamped : List ℕ → List ℕ
-clamped bytes =
-    let low = slice_set bytes 0 (slice_index bytes 0 - slice_index bytes 0 % 8) in
-    slice_set low 31 (slice_index low 31 % 64 + 64)
 
 -- the state of the Montgomery ladder before its first step, by the u-coordinate of the point (RFC 7748 section 5)
 unfoldable pub ladder_start : List ℕ → LadderState

@@ -2,7 +2,7 @@
 
 use Rattle.std.proofs.Common.{◌≡◌, ℕ, ◌+◌, ◌≤◌, inl, inr, Bool, true, false, List, length, take, refl, sym, ap, ap₂, ◌∙◌, arith, cond, eqb, eqb-true}
 use Rattle.std.proofs.lemmas.Bool.{cases_Bool, cond_both}
-use Rattle.std.proofs.lemmas.List.{length-append, length-set, length-take-le}
+use Rattle.std.proofs.lemmas.List.{length-append, length-set}
 use Rattle.std.specs.Int.{to_be_bytes, w128}
 use Rattle.std.specs.Prelude.{◌&&◌, ◌||◌, codes, Option, None, Some, option_map, replicate}
 use Rattle.std.proofs.lemmas.Slice.Eq.{bytes_eq-Decides}
@@ -21,7 +21,8 @@ use Rattle.sshpacket.specs.KeysElsewhere.{public_part}
 use Rattle.sshpacket.specs.KeysElsewhereLaws.{public_part_short}
 use Rattle.sshsuite.specs.Curve25519.{base_point, x25519}
 use Rattle.sshsuite.specs.CurveBytes.{bytes_x25519, length_encode, length_x25519}
-use Rattle.sshsuite.specs.Edwards25519.{with_sign, encode_point}
+use Rattle.sshcurve.specs.EdwardsNumbers.{with_sign}
+use Rattle.sshsuite.specs.Edwards25519.{encode_point}
 use Rattle.sshsuite.specs.declared.edwards25519.Point.{Point}
 use Rattle.sshsuite.specs.Deployed.{deployed, ed25519, exponent_of, is_curve25519, is_group14, is_held, is_hybrid, key_lens, respond, response_with, scalar_of, share, shared, shared_secret, wrapped}
 use Rattle.sshsuite.specs.Group14.{group14_share, group14_shared}
@@ -29,7 +30,7 @@ use Rattle.sshsuite.specs.Group14Laws.{body_bytes, body_number, bytes_by, group1
 use Rattle.sshsuite.specs.Hybrid.{hybrid_respond, hybrid_share, hybrid_shared}
 use Rattle.sshsuite.specs.HybridLaws as hybrid
 use Rattle.sshsuite.specs.MpintBody.{mpint_body}
-use Rattle.sshsuite.specs.Scalar.{bytes_of_halves, encode_scalar}
+use Rattle.sshcurve.specs.Scalar.{bytes_of_halves, encode_scalar}
 use Rattle.sshsuite.specs.CipherNames.{is_ctr, is_gcm, is_short_key}
 use Rattle.sshsuite.specs.Ctr.{is_by_sha512, tag_length}
 use Rattle.sshsuite.specs.Ctr as ctr

@@ -2,15 +2,14 @@
 
 use Rattle.std.proofs.Common.{ℕ, ◌%◌, ◌^◌, List}
 use Rattle.std.specs.Prelude.{◌==◌, ◌&&◌, if◌then◌else◌, length, Option, None, Some}
-use Rattle.sshsuite.specs.Bits.{number_of_32}
-use Rattle.sshsuite.specs.Curve25519.{clamped}
+use Rattle.sshcurve.specs.Bits.{number_of_32}
+use Rattle.sshcurve.specs.X25519Numbers.{clamped, x25519_number}
 use Rattle.sshsuite.specs.Deployed.{exponent_of, is_curve25519, is_group14, is_hybrid, scalar_of}
 use Rattle.sshsuite.specs.Group14.{group14_share, group14_shared}
 use Rattle.sshsuite.specs.Hybrid.{hybrid_share, hybrid_shared}
 use Rattle.sshsuite.specs.MpintBody.{mpint_body}
-use Rattle.sshsuite.specs.FieldBytes.{bytes_of_number}
-use Rattle.sshsuite.specs.FieldValues.{field}
-use Rattle.sshsuite.specs.X25519Numbers.{x25519_number}
+use Rattle.sshcurve.specs.FieldBytes.{bytes_of_number}
+use Rattle.sshcurve.specs.FieldNumbers.{field}
 
 -- the scalar that is drawn of 32 random bytes, times the base point, whose u is 9; by diffie-hellman-group14-sha256 g to the number that is
 -- drawn, modulo p (RFC 7748 section 6.1, RFC 4253 section 8, draft-ietf-sshm-mlkem-hybrid-kex)

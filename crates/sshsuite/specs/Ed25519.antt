@@ -2,28 +2,15 @@
 
 use Rattle.std.specs.Prelude.{ℕ, ◌+◌, ◌*◌, ◌%◌, ◌&&◌, nat_lt, Bool, false, List, [], ◌++◌, take, drop, Option, None, Some}
 use Rattle.std.specs.Str.{bytes_eq}
-use Rattle.sha2.specs.Sha512.{sha512}
-use Rattle.sshsuite.specs.Bits.{number_of_32}
-use Rattle.sshsuite.specs.Curve25519.{clamped}
+use Rattle.sshcurve.specs.Bits.{number_of_32}
+use Rattle.sshcurve.specs.Ed25519Numbers.{hash_of, prefix_of, secret_scalar}
 use Rattle.sshsuite.specs.Edwards25519.{add_points, decode_point, encode_point, multiply, multiply_base, negate}
-use Rattle.sshsuite.specs.Scalar.{encode_scalar, number_in, order}
+use Rattle.sshcurve.specs.Scalar.{encode_scalar, number_in, order}
 use Rattle.sshsuite.specs.declared.edwards25519.Point.{Point}
-
--- the secret scalar: the first half of the SHA-512 of the private key, clamped (RFC 8032 section 5.1.5)
-unfoldable pub secret_scalar : List ℕ → List ℕ
-secret_scalar private_key = clamped (take 32 (sha512 private_key))
-
--- the prefix: the second half of the SHA-512 of the private key (RFC 8032 section 5.1.6)
-unfoldable pub prefix_of : List ℕ → List ℕ
-prefix_of private_key = drop 32 (sha512 private_key)
 
 -- the public key: the bytes of the secret scalar times the base point, computed by limbs (RFC 8032 section 5.1.5)
 unfoldable pub public_key : List ℕ → List ℕ
 public_key private_key = encode_point (multiply_base (secret_scalar private_key))
-
--- SHA-512 of three parts, one after the other (RFC 8032 section 5.1.6)
-unfoldable pub hash_of : List ℕ → List ℕ → List ℕ → List ℕ
-hash_of first second third = sha512 (first ++ second ++ third)
 
 -- R and s
 unfoldable pub signature : List ℕ → List ℕ → List ℕ

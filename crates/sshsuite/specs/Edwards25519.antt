@@ -1,9 +1,10 @@
 -- Points of edwards25519 in extended coordinates, in the order of the steps of RFC 8032 section 5.1.
 
 use Rattle.std.proofs.Common.{◌≡◌, add-one, refl}
-use Rattle.std.specs.Prelude.{ℕ, zero, suc, ◌+◌, ◌-◌, ◌*◌, ◌/◌, ◌%◌, ◌^◌, ◌<◌, ◌==◌, ◌&&◌, nat_lt, Bool, List, [], ◌∷◌, slice_index, slice_index_or, slice_range, slice_set, if◌then◌else◌, Option, None, Some, replicate}
+use Rattle.std.specs.Prelude.{ℕ, zero, suc, ◌+◌, ◌-◌, ◌*◌, ◌/◌, ◌%◌, ◌^◌, ◌<◌, ◌==◌, ◌&&◌, nat_lt, Bool, List, [], ◌∷◌, slice_index, slice_index_or, slice_range, if◌then◌else◌, Option, None, Some, replicate}
 use Rattle.std.specs.Str.{bytes_eq}
-use Rattle.sshsuite.specs.Bits.{bit_at, number_of_32}
+use Rattle.sshcurve.specs.Bits.{bit_at, number_of_32}
+use Rattle.sshcurve.specs.EdwardsNumbers.{with_sign}
 use Rattle.sshsuite.specs.FieldElement.{add, decode, encode, inverse, loose_difference, loose_sum, mul, none, one, root_power, squared, sub}
 use Rattle.sshsuite.specs.declared.edwards25519.Factors.{Factors}
 use Rattle.sshsuite.specs.declared.edwards25519.Point.{Point}
@@ -118,10 +119,6 @@ add_rows_to bytes (suc k) = add_row_to bytes (7 - k) (double (add_rows_to bytes 
 -- the base point times the number of these bytes, by limbs
 unfoldable pub multiply_base : List ℕ → Point
 multiply_base bytes = point_of_factors (add_rows_to bytes 8)
-
--- y, with the lowest bit of x as the highest
-unfoldable pub with_sign : List ℕ → List ℕ → List ℕ
-with_sign x y = slice_set y 31 (slice_index y 31 % 128 + slice_index x 0 % 2 * 128)
 
 -- the 32 bytes of a point: y, with the lowest bit of x as the highest (RFC 8032 section 5.1.2)
 unfoldable pub encode_point : Point → List ℕ

@@ -3,7 +3,7 @@
 
 use Rattle.std.proofs.Common.{◌≡◌, add-one, refl}
 use Rattle.std.specs.Prelude.{ℕ, zero, suc, ◌+◌, ◌-◌, ◌*◌, ◌/◌, ◌%◌, ◌^◌, List, [], ◌∷◌, slice_index, bit_or}
-use Rattle.sshsuite.specs.Bits.{bytes_of_words, word_at}
+use Rattle.sshcurve.specs.Bits.{bytes_of_words, word_at}
 use Rattle.sshsuite.specs.Limbs.{add64, add128, mul64, mul128, reduced_once}
 
 -- the sum of the products at each place

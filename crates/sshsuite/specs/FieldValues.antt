@@ -1,11 +1,8 @@
 -- The numbers of elements, which are five limbs of 51 bits.
 
-use Rattle.std.proofs.Common.{ℕ, ◌+◌, ◌*◌, ◌<◌, List}
+use Rattle.std.proofs.Common.{◌≡◌, ℕ, ◌+◌, ◌*◌, ◌%◌, ◌^◌, ◌<◌, List}
 use Rattle.std.specs.Prelude.{slice_index}
-
--- 2^255 - 19 (RFC 7748 section 4.1)
-abbrev pub field : ℕ
-field = 57896044618658097711785492504343953926634992332820282019728792003956564819949
+use Rattle.sshcurve.specs.FieldNumbers.{field}
 
 -- the number of five limbs
 abbrev pub weighed : ℕ → ℕ → ℕ → ℕ → ℕ → ℕ
@@ -24,3 +21,8 @@ pub record AreBelow (n : ℕ) (a : List ℕ) : Type 0 where
   pub l2 : slice_index a 2 < n
   pub l3 : slice_index a 3 < n
   pub l4 : slice_index a 4 < n
+
+-- the limbs are below 2^52, and of this number
+pub record HasNumber (a : List ℕ) (n : ℕ) : Type 0 where
+  pub below : AreBelow (2 ^ 52) a
+  pub number : value a % field ≡ n

@@ -4,7 +4,7 @@ use Rattle.std.proofs.Common.{ℕ, ◌+◌, ◌-◌, ◌*◌, ◌%◌, ◌^◌, 
 use Rattle.std.specs.Prelude.{◌&&◌, ◌||◌, Bool, false, if◌then◌else◌, nat_le, nat_lt, Option, None, Some}
 use Rattle.std.specs.Int.{bytes_high_first}
 use Rattle.sshsuite.specs.MpintBody.{mpint_body}
-use Rattle.sshsuite.specs.Scalar.{number_in}
+use Rattle.sshcurve.specs.Scalar.{number_in}
 
 -- p, the prime of group 14 (RFC 3526 section 3): 2^2048 - 2^1984 - 1 + 2^64 * ([2^1918 pi] + 124476)
 unfoldable pub prime : ℕ

@@ -12,7 +12,7 @@ use Rattle.sshpacket.specs.Suite.{IsNumberBody, IsPositiveBody}
 use Rattle.sshsuite.specs.CounterModeLaws.{bytes_high as bytes_of}
 use Rattle.sshsuite.specs.Group14.{bytes_high, generator, group14_share, group14_shared, is_within, number_body, peer_number, power, prime, secret_body, secret_with}
 use Rattle.sshsuite.specs.MpintBody.{mpint_body}
-use Rattle.sshsuite.specs.Scalar.{number_in}
+use Rattle.sshcurve.specs.Scalar.{number_in}
 
 -- Bodies.
 low_positive : (b : ℕ) (bytes : List ℕ) → (b ≡ 0 → ⊥) → b < 128 → length bytes ≤ 255 → IsPositiveBody (b ∷ bytes)

@@ -2,6 +2,7 @@
 
 use Rattle.std.specs.Prelude.{◌≡◌, ℕ, List}
 use Rattle.sshmlkem.specs.Kem.{encapsulated, keys_of}
+use Rattle.sshmlkem.specs.Noise.{KeepsBits, noise_between}
 use Rattle.sshmlkem.specs.Pke.{decrypted, pke_keys}
 use Rattle.sshmlkem.specs.declared.kem.Encapsulated.{Encapsulated}
 use Rattle.sshmlkem.specs.declared.kem.KemKeys.{KemKeys}
@@ -20,6 +21,15 @@ made_for client server = encapsulated (client_keys client).encapsulation_key (ex
 -- the client decrypts the message that the server has encapsulated (FIPS 203 table 1)
 abbrev pub Decrypts : List ℕ → List ℕ → Type 0
 Decrypts client server = decrypted (pke_keys (expanded client HybridClient 0)).decryption_key (made_for client server).ciphertext ≡ expanded server HybridServer 0
+
+-- the noise of ML-KEM between a client's key and a server's message: what decryption adds to the message's polynomial (FIPS 203 sections 5.2
+-- and 5.3)
+abbrev pub hybrid_noise : List ℕ → List ℕ → List ℕ
+hybrid_noise client server = noise_between (expanded client HybridClient 0) (expanded server HybridServer 0)
+
+-- the noise leaves each bit of the message as it is
+abbrev pub KeepsMessage : List ℕ → List ℕ → Type 0
+KeepsMessage client server = KeepsBits (expanded server HybridServer 0) (hybrid_noise client server)
 
 -- each scalar times the other's point is one point (RFC 7748 section 6.1)
 abbrev pub Meets : List ℕ → List ℕ → Type 0

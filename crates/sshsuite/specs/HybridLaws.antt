@@ -1,14 +1,12 @@
 -- What the hybrid answers is bytes, of a length that fits.
 
-use Rattle.std.proofs.Common.{◌≡◌, ℕ, zero, suc, ◌/◌, ◌%◌, Bool, true, false, List, [], ◌∷◌, ◌++◌, length, take, ap, arith, cond, eqb}
-use Rattle.std.specs.Prelude.{◌&&◌, slice_index, replicate, Option, None, Some, option_map}
+use Rattle.std.proofs.Common.{◌≡◌, ℕ, Bool, true, false, List, ◌++◌, length, take, ap, cond, eqb}
+use Rattle.std.specs.Prelude.{◌&&◌, replicate, Option, None, Some, option_map}
 use Rattle.std.specs.Str.{bytes_eq}
 use Rattle.sha2.proofs.Facts256.{length-sha256}
 use Rattle.sha2.specs.Sha256.{sha256}
 use Rattle.sshmlkem.specs.Kem.{encapsulated, is_key}
 use Rattle.sshmlkem.specs.KemBytes.{AreBytes, both_parts, ciphertext_bytes, key_bytes}
-use Rattle.sshwire.specs.ByteLaws.{bytes_append, bytes_cons, bytes_none}
-use Rattle.sshwire.specs.Types.{IsBytes}
 use Rattle.sshpacket.specs.Suite.{ResponseData}
 use Rattle.sshsuite.specs.Curve25519.{x25519}
 use Rattle.sshsuite.specs.HashBytes.{bytes_sha256}

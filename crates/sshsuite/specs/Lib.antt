@@ -38,11 +38,6 @@ pub mod HybridLaws
 pub mod HybridAgreement
 pub mod DeployedLaws
 pub mod FieldValues
-pub mod FieldBytes
-pub mod FieldNumbers
-pub mod X25519Numbers
-pub mod EdwardsNumbers
-pub mod DecodingNumbers
-pub mod Ed25519Numbers
+pub mod PointNumbers
 pub mod PolyNumbers
 pub mod DeployedNumbers

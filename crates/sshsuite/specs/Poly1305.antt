@@ -3,7 +3,7 @@
 use Rattle.std.proofs.Common.{◌≡◌, add-one, refl}
 use Rattle.std.specs.Prelude.{ℕ, zero, suc, ◌+◌, ◌-◌, ◌*◌, ◌/◌, ◌%◌, ◌^◌, ◌==◌, List, [], ◌∷◌, ◌++◌, length, take, drop, slice_index, bit_and, bit_or, if◌then◌else◌, replicate, min}
 use Rattle.std.specs.Int.{w128, to_le_bytes}
-use Rattle.sshsuite.specs.Bits.{word_at}
+use Rattle.sshcurve.specs.Bits.{word_at}
 use Rattle.sshsuite.specs.Limbs.{add64, mul64, reduced_once}
 
 -- the limbs of two words, and of what stands above them

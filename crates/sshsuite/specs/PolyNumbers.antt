@@ -3,7 +3,7 @@
 use Rattle.std.proofs.Common.{ℕ, zero, suc, ◌+◌, ◌-◌, ◌*◌, ◌/◌, ◌%◌, ◌^◌, List, ◌∷◌, ◌++◌, length}
 use Rattle.std.specs.Int.{w128, to_le_bytes}
 use Rattle.std.specs.Prelude.{◌==◌, bit_and, if◌then◌else◌, replicate}
-use Rattle.sshsuite.specs.Bits.{word_at}
+use Rattle.sshcurve.specs.Bits.{word_at}
 use Rattle.sshsuite.specs.Poly1305.{block_at}
 
 -- 2^130 - 5

@@ -1,35 +1,14 @@
--- Numbers modulo the order of the group of edwards25519 (RFC 8032 section 5.1).
+-- Numbers modulo the order of the group of edwards25519, as two halves of 128 bits, and steps of loops over the bits of such.
 
 use Rattle.std.proofs.Common.{◌≡◌, ◌<◌, add-one, ap₂, arith}
-use Rattle.std.specs.Prelude.{ℕ, zero, suc, ◌+◌, ◌-◌, ◌*◌, ◌/◌, ◌%◌, ◌^◌, List, ◌++◌, length}
-use Rattle.std.specs.Int.{w128, to_le_bytes}
-use Rattle.sshsuite.specs.Bits.{bit_at}
+use Rattle.std.specs.Prelude.{ℕ, ◌+◌, ◌-◌, ◌*◌, ◌/◌, ◌%◌, ◌^◌, List, length}
+use Rattle.sshcurve.specs.Bits.{bit_at}
+use Rattle.sshcurve.specs.Scalar.{bytes_of_halves, encode_scalar, number_to, order}
 use Rattle.sshsuite.specs.declared.scalar.Scalar.{Scalar}
-
--- L: 2^252 + 27742317777372353535851937790883648493
-abbrev pub order : ℕ
-order = 7237005577332262213973186563042994240857116359379907606001950938285454250989
 
 -- the number of two halves
 abbrev pub number : Scalar → ℕ
 number a = a.high * 2 ^ 128 + a.low
-
--- the number of the first bits of these bytes, the highest first, where the lowest byte stands first
-unfoldable pub number_to : List ℕ → ℕ → ℕ
-number_to bytes zero = 0
-number_to bytes (suc n) = 2 * number_to bytes n + bit_at bytes (8 * length bytes - 1 - n)
-
--- the number of these bytes, the lowest first
-unfoldable pub number_in : List ℕ → ℕ
-number_in bytes = number_to bytes (8 * length bytes)
-
--- 32 bytes of two halves, the lowest first
-unfoldable pub bytes_of_halves : ℕ → ℕ → List ℕ
-bytes_of_halves low high = to_le_bytes w128 low ++ to_le_bytes w128 high
-
--- the 32 bytes of a number below 2^256, the lowest first
-unfoldable pub encode_scalar : ℕ → List ℕ
-encode_scalar n = bytes_of_halves (n % 2 ^ 128) (n / 2 ^ 128)
 
 pub encode_halves : (high low : ℕ) → low < 2 ^ 128 → encode_scalar (high * 2 ^ 128 + low) ≡ bytes_of_halves low high
 unfolding encode_scalar

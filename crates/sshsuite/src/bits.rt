@@ -1,12 +1,13 @@
 //! Bytes and the bits and words in them.
 
 ghost use Rattle.std.specs.Prelude.{◌≡◌, ◌<◌, ◌≤◌, ◌+◌, ◌*◌, drop, length, take};
-ghost use Rattle.sshsuite.specs.Bits.{bit_at, bytes_of_words, high_word_at, word_at};
+ghost use Rattle.sshcurve.specs.Bits.{bit_at, bytes_of_words, word_at};
+ghost use Rattle.sshsuite.specs.Bits.{high_word_at};
 ghost use Rattle.sshwire.specs.Masks.{xored};
 ghost use Rattle.sshsuite.specs.Sealing.{filled_up};
 
 /// The 64-bit word at a place of bytes, the lowest byte first.
-#[tactic(auto, unfolding(crate::specs::Bits::word_at))]
+#[tactic(auto, unfolding(sshcurve::specs::Bits::word_at))]
 pub(crate) fn word_at(bytes: &[u8], i: usize) -> u64
     requires { i + 8 ≤ length bytes.now }
     ensures { result ≡ word_at bytes.now i }
@@ -42,7 +43,7 @@ pub(crate) fn high_word_at(bytes: &[u8], i: usize) -> u64
 }
 
 /// The bit at a place of bytes, counted from the lowest of the first byte: 0 or 1.
-#[tactic(auto, unfolding(crate::specs::Bits::bit_at))]
+#[tactic(auto, unfolding(sshcurve::specs::Bits::bit_at))]
 pub(crate) fn bit_at(bytes: &[u8], i: usize) -> u64
     requires { i < 8 * length bytes.now }
     ensures value { result ≡ bit_at bytes.now i }
@@ -72,7 +73,7 @@ pub(crate) fn second_half(bytes: &[u8]) -> [u8; 32]
 }
 
 /// 32 bytes of four words, the lowest first.
-#[tactic(auto, unfolding(crate::specs::Bits::bytes_of_words))]
+#[tactic(auto, unfolding(sshcurve::specs::Bits::bytes_of_words))]
 pub(crate) fn bytes_of_words(words: [u64; 4]) -> [u8; 32]
     ensures { result ≡ bytes_of_words words }
 {

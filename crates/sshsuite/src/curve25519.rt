@@ -1,7 +1,8 @@
 //! The function X25519 (RFC 7748 section 5).
 
 ghost use Rattle.std.specs.Prelude.{◌≡◌, ◌<◌, length};
-ghost use Rattle.sshsuite.specs.Curve25519.{affine, clamped, ladder, ladder_start, ladder_step, small_of, times_first, turned, x25519};
+ghost use Rattle.sshsuite.specs.Curve25519.{affine, ladder, ladder_start, ladder_step, small_of, times_first, turned, x25519};
+ghost use Rattle.sshcurve.specs.X25519Numbers.{clamped};
 
 use crate::bits::bit_at;
 use crate::field_element::{
@@ -101,7 +102,7 @@ fn ladder_step(s: LadderState, x1: Element, small: Option<u32>) -> LadderState
 }
 
 /// A scalar of these bytes: a multiple of eight with the bit 254 (RFC 7748 section 5: decodeScalar25519).
-#[tactic(auto, unfolding(crate::specs::Curve25519::clamped))]
+#[tactic(auto, unfolding(sshcurve::specs::X25519Numbers::clamped))]
 pub(crate) fn clamped(bytes: [u8; 32]) -> [u8; 32]
     ensures { result ≡ clamped bytes }
 {

@@ -60,14 +60,15 @@ const ED25519: &str = "ssh-ed25519";
 ///
 /// Of exchanges, signatures and AES itself what it computes is proved to be the RFCs' and FIPS 197's
 /// ([`deployed_law`](crate::deployed_law), [`rsa_law`](crate::rsa_law), [`aes_law`](crate::aes_law)), down to numbers; counter mode and HMAC
-/// are written as their definitions are; SHA-256, SHA-512 and ChaCha20 are the kit's. That two ends agree is proved of
-/// diffie-hellman-group14-sha256 alone ([`group14_law`](crate::group14_law)), and that a signature is verified by its own key isn't.
+/// are written as their definitions are; SHA-256, SHA-512 and ChaCha20 are the kit's. Two ends by curve25519-sha256 come to one shared secret
+/// ([`curve25519_law`](crate::curve25519_law)); by diffie-hellman-group14-sha256 they do if no share is refused
+/// ([`group14_law`](crate::group14_law)). What is signed by a key that the suite holds is verified ([`signature_law`](crate::signature_law)).
 ///
 /// Each method draws of the random bytes of an exchange by SHAKE256 of them and a byte of its own: so a share that was sent
 /// by one method tells nothing of what another draws, also where a guess was wrong and both are sent.
 ///
-/// By mlkem768x25519-sha256 two ends come to two secrets where decapsulation fails, which FIPS 203 puts below 2^-164: the
-/// client then finds the signature wrong (F11).
+/// By mlkem768x25519-sha256 two ends come to one shared secret if the noise of ML-KEM between their random bytes is small
+/// ([`hybrid_law`](crate::hybrid_law)). For a few random bytes it isn't, and then the client finds the signature wrong (F11).
 ///
 /// No branch and no index depends on a secret, as the code is written; no contract promises it of what a
 /// compiler makes. What time does tell is how many zeros a shared secret begins with, since it goes as an

@@ -2,7 +2,8 @@
 
 ghost use Rattle.std.specs.Prelude.{◌≡◌, IfOk, Some, drop, length, take};
 ghost use Rattle.sha2.specs.Sha512.{sha512};
-ghost use Rattle.sshsuite.specs.Ed25519.{is_signature, prefix_of, public_key, secret_scalar, signature, verifies};
+ghost use Rattle.sshsuite.specs.Ed25519.{is_signature, public_key, signature, verifies};
+ghost use Rattle.sshcurve.specs.Ed25519Numbers.{prefix_of, secret_scalar};
 
 use crate::bits::{first_half, second_half};
 use crate::curve25519::clamped;
@@ -25,7 +26,7 @@ fn expanded(private_key: &[u8]) -> [u8; 64]
 }
 
 /// The secret scalar of a private key, as 32 bytes.
-#[tactic(auto, unfolding(crate::specs::Ed25519::secret_scalar))]
+#[tactic(auto, unfolding(sshcurve::specs::Ed25519Numbers::secret_scalar))]
 fn secret_scalar(private_key: &[u8]) -> [u8; 32]
     ensures { result ≡ secret_scalar private_key.now }
 {
@@ -33,7 +34,7 @@ fn secret_scalar(private_key: &[u8]) -> [u8; 32]
 }
 
 /// What a private key's nonces are made of.
-#[tactic(auto, unfolding(crate::specs::Ed25519::prefix_of))]
+#[tactic(auto, unfolding(sshcurve::specs::Ed25519Numbers::prefix_of))]
 fn prefix_of(private_key: &[u8]) -> [u8; 32]
     ensures { result ≡ prefix_of private_key.now }
 {
@@ -50,7 +51,7 @@ pub(crate) fn public_key(private_key: &[u8]) -> [u8; 32]
 
 /// The signature of the input, of 64 bytes (RFC 8032 section 5.1.6), by a private key and its public key: by another
 /// one the private key would come to light.
-#[tactic(auto, unfolding(crate::specs::Ed25519::hash_of, crate::specs::Ed25519::signature))]
+#[tactic(auto, unfolding(sshcurve::specs::Ed25519Numbers::hash_of, crate::specs::Ed25519::signature))]
 pub(crate) fn signature(
     alloc: Global,
     private_key: &[u8],
@@ -87,7 +88,7 @@ pub(crate) fn is_signature(key: &[u8], input: &[u8], signature: &[u8]) -> bool
 
 /// Whether the two halves of a signature, R and s, are those of the input by the key of this point: s B is
 /// R and k times the point. All of it is public.
-#[tactic(auto, unfolding(crate::specs::Ed25519::hash_of, crate::specs::Ed25519::verifies))]
+#[tactic(auto, unfolding(sshcurve::specs::Ed25519Numbers::hash_of, crate::specs::Ed25519::verifies))]
 fn verifies(p: Point, key: &[u8], input: &[u8], point: &[u8], answer: &[u8]) -> bool
     requires { length answer.now ≡ 32 }
     ensures { result ≡ verifies (Some p) key.now input.now point.now answer.now }

@@ -1,7 +1,8 @@
 //! Points of the curve edwards25519 (RFC 8032 section 5.1), in extended coordinates (section 5.1.4).
 
 ghost use Rattle.std.specs.Prelude.{◌≡◌, ◌<◌, ◌==◌, if◌then◌else◌, length};
-ghost use Rattle.sshsuite.specs.Edwards25519.{AreOfTable, add_points, add_row_to, add_rows_to, add_summand, add_where, decode_point, double, encode_point, is_canonical, is_one, multiply, multiply_base, multiply_to, negate, neutral_factors, point_of_factors, point_with, root_by, square_root_of_ratio, summand_of, table_element, table_point, times_z, with_sign};
+ghost use Rattle.sshsuite.specs.Edwards25519.{AreOfTable, add_points, add_row_to, add_rows_to, add_summand, add_where, decode_point, double, encode_point, is_canonical, is_one, multiply, multiply_base, multiply_to, negate, neutral_factors, point_of_factors, point_with, root_by, square_root_of_ratio, summand_of, table_element, table_point, times_z};
+ghost use Rattle.sshcurve.specs.EdwardsNumbers.{with_sign};
 
 use crate::bits::{bit_at, word_at};
 use crate::field_element::{
@@ -484,7 +485,7 @@ pub(crate) fn multiply_public(bytes: &[u8], p: Point) -> Point
 }
 
 /// The bytes of y, with the lowest bit of x as the highest.
-#[tactic(auto, unfolding(crate::specs::Edwards25519::with_sign))]
+#[tactic(auto, unfolding(sshcurve::specs::EdwardsNumbers::with_sign))]
 fn with_sign(x: [u8; 32], y: [u8; 32]) -> [u8; 32]
     ensures { result ≡ with_sign x y }
 {
@@ -546,7 +547,7 @@ fn point_with(x: Element, y: Element, odd: u8) -> Option<Point>
 }
 
 /// Whether y, which is what 32 bytes are without their highest bit, is below 2^255 - 19.
-#[tactic(auto, unfolding(crate::specs::Edwards25519::is_canonical, crate::specs::Bits::number_of_32))]
+#[tactic(auto, unfolding(crate::specs::Edwards25519::is_canonical, sshcurve::specs::Bits::number_of_32))]
 fn is_canonical(bytes: &[u8]) -> bool
     requires { length bytes.now ≡ 32 }
     ensures { result ≡ is_canonical bytes.now }

@@ -2,34 +2,39 @@
 //! written again. No function of the crate calls them.
 
 ghost use Rattle.sshpacket.specs.KeysElsewhere.{public_part};
-ghost use Rattle.sshpacket.specs.Suite.{ResponseData};
-ghost use Rattle.std.specs.Prelude.{false, ◌≡◌, ◌<◌, ◌+◌, ◌*◌, ◌%◌, ◌^◌, List, Some, true, ℕ, bit_xor, length, slice_index};
+ghost use Rattle.sshpacket.specs.Suite.{Agrees, ResponseData, Signs};
+ghost use Rattle.std.specs.Prelude.{false, ◌≡◌, ◌↔◌, ◌<◌, ◌+◌, ◌*◌, ◌%◌, ◌^◌, List, Some, true, ℕ, bit_xor, length, slice_index};
 ghost use Rattle.sshwire.specs.Types.{IsBytes};
 ghost use Rattle.sshsuite.specs.Aes.{cipher, number_at, round_keys, short_round_keys};
 ghost use Rattle.sshsuite.specs.AesBytes.{IsExpanded, IsShortSchedule, bit_of, block_of, byte_inverse, byte_mapped, byte_product, encrypted_state, key_state, mapped_bit, sample_key, short_sample_key, tag_additional, tag_key, tag_sealed};
-ghost use Rattle.sshsuite.specs.Bits.{number_of_32};
-ghost use Rattle.sshsuite.specs.Curve25519.{clamped, x25519};
-ghost use Rattle.sshsuite.specs.DecodingNumbers.{AreAlike, point_in};
-ghost use Rattle.sshsuite.specs.Deployed.{deployed, wrapped};
+ghost use Rattle.sshcurve.specs.Bits.{number_of_32};
+ghost use Rattle.sshcurve.specs.X25519Numbers.{clamped, x25519_number};
+ghost use Rattle.sshsuite.specs.Curve25519.{x25519};
+ghost use Rattle.sshsuite.specs.PointNumbers.{AreAlike, HasCoordinates};
+ghost use Rattle.sshcurve.specs.DecodingNumbers.{point_in};
+ghost use Rattle.sshsuite.specs.Deployed.{deployed, is_curve25519, is_hybrid, wrapped};
 ghost use Rattle.sshsuite.specs.DeployedNumbers.{share_bytes, shared_body};
 ghost use Rattle.sshsuite.specs.Ed25519.{is_signature, public_key, signature};
-ghost use Rattle.sshsuite.specs.Ed25519Numbers.{is_signed, key_of, signed};
+ghost use Rattle.sshcurve.specs.Ed25519Numbers.{is_signed, key_of, signed};
 ghost use Rattle.sshsuite.specs.Edwards25519.{decode_point, encode_point, multiply, multiply_base, table_point};
-ghost use Rattle.sshsuite.specs.EdwardsNumbers.{Coordinates, HasCoordinates, base_at, base_multiple, bytes_of_point, multiple};
-ghost use Rattle.sshsuite.specs.FieldBytes.{bytes_of_number};
+ghost use Rattle.sshcurve.specs.EdwardsNumbers.{Coordinates, base_at, base_multiple, bytes_of_point, multiple};
+ghost use Rattle.sshcurve.specs.FieldBytes.{bytes_of_number};
 ghost use Rattle.sshsuite.specs.FieldElement.{add, decode, encode, mul, scaled, squared, sub};
-ghost use Rattle.sshsuite.specs.FieldValues.{AreBelow, field, value};
+ghost use Rattle.sshsuite.specs.FieldValues.{AreBelow, value};
+ghost use Rattle.sshcurve.specs.FieldNumbers.{field};
 ghost use Rattle.sshsuite.specs.Poly1305.{tag_of};
 ghost use Rattle.sshsuite.specs.Expansion.{expansion_input};
 ghost use Rattle.sshsuite.specs.Ghash.{ghash};
 ghost use Rattle.sshsuite.specs.Group14.{generator, group14_share, group14_shared, is_within, number_body, peer_number, power};
 ghost use Rattle.sshsuite.specs.Hybrid.{hybrid_respond, hybrid_share, hybrid_shared};
-ghost use Rattle.sshsuite.specs.HybridAgreement.{Decrypts, Meets};
+ghost use Rattle.sshmlkem.specs.Noise.{are_small};
+ghost use Rattle.sshsuite.specs.HybridAgreement.{Decrypts, KeepsMessage, hybrid_noise};
 ghost use Rattle.sshsuite.specs.PolyNumbers.{mac};
 ghost use Rattle.sshsuite.specs.Rsa.{digest_info, is_rsa, is_signed_by, key_blob, signature_blob};
-ghost use Rattle.sshsuite.specs.X25519Numbers.{x25519_number};
 ghost use Rattle.sshsuite.specs.declared.edwards25519.Point.{Point};
 ghost use Rattle.sshsuite.specs.declared.expansion.Purpose.{Purpose};
+
+use sshmlkem::{decryption_law, key_law};
 
 /// The law of elements whose limbs are below 2^52: sums, differences, products, squares and products by a number
 /// below 2^32 (`scaled`) have such limbs too, and are those modulo 2^255 - 19; limbs that are read of 32 bytes have the number of these without their
@@ -121,14 +126,36 @@ pub fn draws_law()
     ensures apart { (random other : List ℕ) (one two : Purpose) → expansion_input random one ≡ expansion_input other two → (random ≡ other) × (one ≡ two) }
 {}
 
-/// The law of mlkem768x25519-sha256: what a server answers to a client's share gives the client the server's secret, if the client
-/// decrypts the message that the server has encapsulated (`Decrypts`), and each scalar of X25519 times the other's point is one point
-/// (`Meets`). The first isn't true of all random bytes: it fails for less than one choice in 2^164 (FIPS 203 table 1). The second isn't
-/// proved.
+/// The law of curve25519-sha256: two ends come to one shared secret, whatever their random bytes are. It is never all zeros, which would
+/// be refused (RFC 7748 section 6.1).
+pub fn curve25519_law()
+    ensures agrees { (kex client server : List ℕ) → is_curve25519 kex ≡ true → Agrees deployed kex client server }
+{
+    x25519_law();
+}
+
+/// The law of ssh-ed25519: what is signed by a private key that the suite holds is verified by its public key.
+pub fn signature_law()
+    ensures signs { (alg secret : List ℕ) → deployed.holds alg secret ≡ true → Signs deployed alg secret }
+{
+    ed25519_law();
+}
+
+/// The law of mlkem768x25519-sha256: two ends come to one shared secret, if the noise of ML-KEM between their random bytes is small
+/// (`agrees`): each of 256 numbers, which can be computed, less than a quarter of 3329 away from 0. It is enough that the client
+/// decrypts the message that the server has encapsulated (`decrypts`), and it does so exactly if the noise keeps each bit of the
+/// message (`exact`). So what a server answers to a client's share gives the client the server's secret (`answered`).
 pub fn hybrid_law()
-    ensures agreed { (client server : List ℕ) (response : ResponseData) → Decrypts client server → Meets client server
+    ensures agrees { (kex client server : List ℕ) → is_hybrid kex ≡ true → are_small (hybrid_noise client server) ≡ true → Agrees deployed kex client server }
+    ensures decrypts { (kex client server : List ℕ) → is_hybrid kex ≡ true → Decrypts client server → Agrees deployed kex client server }
+    ensures exact { (client server : List ℕ) → Decrypts client server ↔ KeepsMessage client server }
+    ensures answered { (client server : List ℕ) (response : ResponseData) → Decrypts client server
         → hybrid_respond server (hybrid_share client) ≡ Some response → hybrid_shared client response.share ≡ Some response.shared }
-{}
+{
+    x25519_law();
+    key_law();
+    decryption_law();
+}
 
 /// The law of rsa-sha2-256 and rsa-sha2-512: by a public key of RFC 4253 section 6.6 and a signature of RFC 8332 section 3 what
 /// verifies is told of the bodies of e and n and of s, in numbers (`verified`), and by other bytes nothing verifies

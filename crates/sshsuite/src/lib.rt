@@ -43,6 +43,6 @@ pub use deployed_suite::DeployedSuite;
 pub use key_pair::KeyPair;
 pub use keyed_suite::KeyedSuite;
 pub use laws::{
-    aes_law, deployed_law, draws_law, ed25519_law, field_law, gcm_law, group14_law, hybrid_law,
-    point_law, poly1305_law, rsa_law, x25519_law,
+    aes_law, curve25519_law, deployed_law, draws_law, ed25519_law, field_law, gcm_law, group14_law,
+    hybrid_law, point_law, poly1305_law, rsa_law, signature_law, x25519_law,
 };

@@ -1,8 +1,9 @@
 //! Numbers modulo the order L of the group of edwards25519 (RFC 8032 section 5.1).
 
 ghost use Rattle.std.specs.Prelude.{◌≡◌, ◌<◌, ◌≤◌, ◌+◌, ◌*◌, ◌-◌, ◌%◌, ◌^◌, ◌==◌, if◌then◌else◌, nat_lt, length};
-ghost use Rattle.sshsuite.specs.Bits.{number_of_32};
-ghost use Rattle.sshsuite.specs.Scalar.{bytes_of_halves, encode_scalar, number, number_in, order};
+ghost use Rattle.sshcurve.specs.Bits.{number_of_32};
+ghost use Rattle.sshcurve.specs.Scalar.{bytes_of_halves, encode_scalar, number_in, order};
+ghost use Rattle.sshsuite.specs.Scalar.{number};
 
 use crate::bits::{bit_at, word_at};
 use crate::constant_time::select_compared;
@@ -96,7 +97,7 @@ fn double_and_add(a: Scalar, b: Scalar, bit: u64) -> Scalar
 }
 
 /// The number of these bytes, the lowest first, times the other.
-#[tactic(auto, using(crate::specs::Scalar::times_none, crate::specs::Scalar::times_more), unfolding(crate::specs::Scalar::number_in))]
+#[tactic(auto, using(crate::specs::Scalar::times_none, crate::specs::Scalar::times_more), unfolding(sshcurve::specs::Scalar::number_in))]
 fn times(bytes: &[u8], b: Scalar) -> Scalar
     requires bytes { length bytes.now ≤ 64 }
     requires b { number b < order }
@@ -124,7 +125,7 @@ fn double_and_bit(a: Scalar, bit: u64) -> Scalar
 }
 
 /// The number of these bytes, the lowest first.
-#[tactic(auto, using(crate::specs::Scalar::from_none, crate::specs::Scalar::from_more), unfolding(crate::specs::Scalar::number_in))]
+#[tactic(auto, using(crate::specs::Scalar::from_none, crate::specs::Scalar::from_more), unfolding(sshcurve::specs::Scalar::number_in))]
 pub(crate) fn scalar_from(bytes: &[u8]) -> Scalar
     requires { length bytes.now ≤ 64 }
     ensures { number result ≡ number_in bytes.now % order }
@@ -149,7 +150,7 @@ pub(crate) fn times_plus(bytes: &[u8], b: Scalar, c: Scalar) -> Scalar
 }
 
 /// 32 bytes of two halves, the lowest first.
-#[tactic(auto, unfolding(crate::specs::Scalar::bytes_of_halves))]
+#[tactic(auto, unfolding(sshcurve::specs::Scalar::bytes_of_halves))]
 fn bytes_of_halves(low: u128, high: u128) -> [u8; 32]
     ensures { result ≡ bytes_of_halves low high }
 {
@@ -176,7 +177,7 @@ fn wide(low: u64, high: u64) -> u128
 }
 
 /// Whether these bytes are those of a number below L (RFC 8032 section 5.1.7: s).
-#[tactic(auto, unfolding(crate::specs::Bits::number_of_32))]
+#[tactic(auto, unfolding(sshcurve::specs::Bits::number_of_32))]
 pub(crate) fn is_reduced(bytes: &[u8]) -> bool
     requires { length bytes.now ≡ 32 }
     ensures { result ≡ nat_lt (number_of_32 bytes.now) order }

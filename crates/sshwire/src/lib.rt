@@ -9,6 +9,7 @@
 #![tactic(auto)]
 
 mod borrowed_name_list;
+mod byte_buffer;
 mod fault;
 mod law;
 mod limits;
@@ -24,9 +25,11 @@ mod peer_version;
 mod put;
 mod reader;
 mod share_form;
+mod text_buffer;
 mod version_line;
 
 pub use borrowed_name_list::BorrowedNameList;
+pub use byte_buffer::ByteBuffer;
 pub use fault::{Memory, WireFault};
 pub use law::{bytes_law, names_law, reading_by_law, reading_law, types_law};
 pub use limits::{LINE_LIMIT, NAME_LIMIT, OTHER_LINE_LIMIT, PAYLOAD_LIMIT};
@@ -41,4 +44,5 @@ pub use peer_version::PeerVersion;
 pub use put::{put_boolean, put_mpint, put_string, put_u32};
 pub use reader::Reader;
 pub use share_form::ShareForm;
+pub use text_buffer::TextBuffer;
 pub use version_line::VersionLine;

@@ -1,10 +1,11 @@
 use Rattle.std.proofs.lemmas.Result.{IfOk-weaker}
 use Rattle.std.specs.Prelude.{IsTrue}
 use Rattle.sshcore.specs.Endpoints.{endpoint_end}
+use Rattle.sshworld.specs.Compatible.{AreCompatible}
 use Rattle.sshworld.specs.Headline.{Headline}
 use Rattle.sshworld.specs.Outcome.{outcome}
-use Rattle.sshpromises.specs.Claims.{CarriesOn}
-use Rattle.sshpromises.proofs.ByHandLemmas.{headline_by_hand}
+use Rattle.sshpromises.specs.Claims.{CarriesOn, HasRunByHand, RunsByHand, SettlesByHand}
+use Rattle.sshpromises.proofs.ByHandLemmas.{came_by_hand, headline_by_hand, no_round}
 use Rattle.sshwire.proofs.OwnedLemmas.{beside_ok}
 use Rattle.sshpromises.proofs.by_hand.run_by_hand.Goals as goal
 
@@ -16,19 +17,29 @@ returns g c =
     let server = c.args.server.now in
     let suite = c.args.suite.now in
     let decisions = c.args.decisions.now in
+    let by = SettlesByHand m d c.args.schedule.now 0 in
     let ends = outcome (m suite) (d decisions) client server in
     let two = c.in_ok-of_client-2 in
     let done = c.carry-done in
     record {
-      headline = beside_ok c.beside-2.result (λ both done. Headline ends (endpoint_end both.0) (endpoint_end both.1) (IsTrue done)) done.result (done.new.client, done.new.server)
+      ran = beside_ok c.beside-2.result (λ both done. HasRunByHand m d client server suite decisions c.args.schedule.now both.0 both.1 (IsTrue done)) done.result (done.new.client, done.new.server)
           c.beside-2.ensures.first c.beside-2.ensures.other
-          (IfOk-weaker done.result (λ all. CarriesOn m d two.of_client two.of_server c.client.new.out c.server-of_server.new.out done.new.client done.new.server (IsTrue all))
-          (λ all. Headline ends (endpoint_end done.new.client) (endpoint_end done.new.server) (IsTrue all))
+          (IfOk-weaker done.result (λ all. CarriesOn m d two.of_client two.of_server c.client.new.out c.server-of_server.new.out by done.new.client done.new.server (IsTrue all))
+          (λ all. HasRunByHand m d client server suite decisions c.args.schedule.now done.new.client done.new.server (IsTrue all))
+          (λ all carries. came_by_hand m d client server suite decisions c.in_ok-of_client.of_client two.of_client done.new.client two.of_server done.new.server
+          c.server-of_server.result _ _ c.client.new.out c.server-of_server.new.out c.new-to_server.ensures.items c.new-to_client.ensures.items
+          two.ensures.first two.ensures.other c.in_ok-of_client.ensures.made c.server-of_server.ensures.made c.parts.ensures.accepted c.parts-2.ensures.accepted
+          (c.wire_law.ensures.begins client server suite decisions two.of_client two.of_server c.client.new.out c.server-of_server.new.out)
+          by (IsTrue all) carries (RunsByHand m d c.args.schedule.now) (no_round m d c.args.schedule.now))
+          done.ensures.carries);
+      headline = beside_ok c.beside-2.result (λ both done. AreCompatible (m suite) (d decisions) client server → Headline ends (endpoint_end both.0) (endpoint_end both.1) (IsTrue done))
+          done.result (done.new.client, done.new.server) c.beside-2.ensures.first c.beside-2.ensures.other
+          (IfOk-weaker done.result (λ all. CarriesOn m d two.of_client two.of_server c.client.new.out c.server-of_server.new.out by done.new.client done.new.server (IsTrue all))
+          (λ all. AreCompatible (m suite) (d decisions) client server → Headline ends (endpoint_end done.new.client) (endpoint_end done.new.server) (IsTrue all))
           (λ all carries. headline_by_hand m d client server suite decisions c.in_ok-of_client.of_client two.of_client done.new.client two.of_server done.new.server
           c.server-of_server.result _ _ c.client.new.out c.server-of_server.new.out c.new-to_server.ensures.items c.new-to_client.ensures.items
           two.ensures.first two.ensures.other c.in_ok-of_client.ensures.made c.server-of_server.ensures.made c.parts.ensures.accepted c.parts-2.ensures.accepted
-          (c.follows_law.ensures.compatible (m suite) (d decisions) client server (g.met.S.AgreeingSuite.agrees suite) c.parts.ensures.accepted c.parts-2.ensures.accepted)
           (c.wire_law.ensures.begins client server suite decisions two.of_client two.of_server c.client.new.out c.server-of_server.new.out)
-          (c.wire_law.ensures.ends client server suite decisions) (IsTrue all) carries)
+          by (IsTrue all) carries (c.wire_law.ensures.ends client server suite decisions))
           done.ensures.carries);
     }

@@ -1,7 +1,7 @@
 use Rattle.std.proofs.Common.{ℕ, ◌*◌, ◌%◌, ◌^◌, ap, arith, ◌∙◌}
 use Rattle.sshsuite.specs.Group14.{prime}
 use Rattle.sshsuite.specs.LongNumbers.{number_of, weight}
-use Rattle.sshsuite.specs.Scalar.{number_to}
+use Rattle.sshcurve.specs.Scalar.{number_to}
 use Rattle.sshsuite.specs.declared.group14.TheConstants.{UNIT_SQUARE}
 use Rattle.sshsuite.proofs.PowerLemmas.{factor_is, one_below, one_is, power_all, power_more, power_none, result_is, unit_is, unit_square_below, unit_square_is}
 use Rattle.sshsuite.proofs.group14.power.Goals as goal

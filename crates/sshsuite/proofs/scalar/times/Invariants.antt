@@ -1,5 +1,6 @@
 use Rattle.std.proofs.Common.{◌≡◌, ◌*◌, ◌%◌}
-use Rattle.sshsuite.specs.Scalar.{number, number_to, order}
+use Rattle.sshsuite.specs.Scalar.{number}
+use Rattle.sshcurve.specs.Scalar.{number_to, order}
 use Rattle.sshsuite.proofs.scalar.times.Given as goal
 
 abbrev pub invariant-loop-i : goal.invariant-loop-i

@@ -1,0 +1,12 @@
+pub mod Primes
+pub mod Bits
+pub mod FieldNumbers
+pub mod FieldBytes
+pub mod X25519Numbers
+pub mod Scalar
+pub mod EdwardsNumbers
+pub mod DecodingNumbers
+pub mod Ed25519Numbers
+pub mod Curve
+pub mod Represents
+pub mod Verification

@@ -1,8 +1,0 @@
--- The bytes of numbers below 2^256.
-
-use Rattle.std.proofs.Common.{ℕ, ◌/◌, ◌%◌, ◌^◌, List, [], ◌∷◌}
-use Rattle.sshsuite.specs.Bits.{bytes_of_words}
-
--- the 32 bytes of a number below 2^256, the lowest first (RFC 7748 section 5)
-unfoldable pub bytes_of_number : ℕ → List ℕ
-bytes_of_number n = bytes_of_words (n % 2 ^ 64 ∷ n / 2 ^ 64 % 2 ^ 64 ∷ n / 2 ^ 128 % 2 ^ 64 ∷ n / 2 ^ 192 ∷ [])
