@@ -30,7 +30,7 @@ free_memory() {
     limit=$(cat "$group/$limit" 2>/dev/null) || continue
     [ "$limit" != max ] || continue
     left=$(awk -v limit="$limit" -v held="$held" '$1 == held { printf "%.0f", (limit - $2) / 1048576 }' "$group/memory.stat")
-    [ "$left" -ge "$free" ] || free=$left
+    [ "${left:-$free}" -ge "$free" ] || free=$left
   done <<<"$(group_folder '') memory.max anon
 $(group_folder memory) memory.limit_in_bytes rss"
   echo "$free"

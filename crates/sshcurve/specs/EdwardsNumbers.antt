@@ -34,7 +34,7 @@ base_numbers = record {
   t = 46827403850823179245072216630277197565144205554125654976674165829533817101731;
 }
 
--- the last step of a sum: X3 = E F, Y3 = G H, Z3 = F G, T3 = E H (RFC 8032 section 5.1.4)
+-- the last step of a sum, by its four factors: x = e f, y = g h, z = f g, t = e h (RFC 8032 section 5.1.4)
 unfoldable pub of_factors : ℕ → ℕ → ℕ → ℕ → Coordinates
 of_factors e f g h = record { x = times e f; y = times g h; z = times f g; t = times e h }
 
