@@ -275,10 +275,11 @@ typedef struct rezdolin_bytes_answer {
  * bytes, and ends the endpoint. To give up without a word, and where the peer has gone, close the socket and wipe the record.
  *
  * A client asks once whether a key is the server's, and once for each signature. A server asks once for a signature, and of each
- * request that it doesn't refuse itself: by the method none, or by one of `methods` with an algorithm that the library has. It asks
- * of each key that a client asks about, too, but not at the last of `tries`. A yes to a request accepts the user, unless its
- * signature is wrong or `required` has more; a yes to a key that is asked about accepts nobody: a signed request follows, about
- * which it asks again. Take your time; the peer may not wait for ever, as OpenSSH's server does for two minutes.
+ * request that it doesn't refuse itself: by the method none, or by one of `methods` with an algorithm that the library has. It first
+ * verifies the signature of a request by a key, and refuses one that is wrong without asking. A yes to a request accepts the user,
+ * unless `required` has more. It asks of each key that a client asks about, too, but not at the last of `tries`. A yes to such a key
+ * accepts nobody: a signed request follows, about which it asks again. REZDOLIN_QUESTION_SIGNED tells the two apart. Take your time;
+ * the peer may not wait for ever, as OpenSSH's server does for two minutes.
  *
  * step and answer first write 0 to the first four bytes of `told`, so that no question of an earlier call is read again. */
 rezdolin_step_answer rezdolin_client_begin(const rezdolin_client_input *client, uint8_t *next, size_t next_len, uint8_t *out,
@@ -363,15 +364,15 @@ enum {
 /* What is asked: the one byte of REZDOLIN_QUESTION_KIND. */
 enum {
     REZDOLIN_ASKS_HOST_KEY = 0, /* of a client: is this the server's key? */
-    REZDOLIN_ASKS_USER = 1,     /* of a server: is this user accepted by this, or would this key do? */
+    REZDOLIN_ASKS_USER = 1,     /* of a server: is this user accepted by this, or would this key do (REZDOLIN_QUESTION_SIGNED)? */
     REZDOLIN_ASKS_SIGNATURE = 2 /* a signature of REZDOLIN_QUESTION_INPUT, by this key and this algorithm. It is a uint32 with the
                                  * length of the algorithm's name, the name, a uint32 with the length of the signature's own bytes,
                                  * and these (RFC 4253 section 6.6), as ssh-agent gives it, and has at most 8192 bytes. Verify one of
                                  * RSA by rezdolin_is_signed before you hand it in: a faulty one can give the private key away */
 };
 
-/* The fields of a question (rezdolin_field, with `told_len`, never the room's length). Any of them may be what the peer wants it
- * to be: show no text of it without a filter of control characters. */
+/* The fields of a question (rezdolin_field, with `told_len`, never the room's length). Any of them but the kind, the number and
+ * REZDOLIN_QUESTION_SIGNED may be what the peer wants it to be: show no text of it without a filter of control characters. */
 enum {
     REZDOLIN_QUESTION_KIND = 0,      /* one byte, REZDOLIN_ASKS_HOST_KEY and so on */
     REZDOLIN_QUESTION_NUMBER = 1,    /* of a user: the number of the request, from 1 on, in 4 bytes, the highest first */
@@ -382,9 +383,14 @@ enum {
                                       * signature: its algorithm */
     REZDOLIN_QUESTION_KEY = 6,       /* the server's public key, the user's, or the one to sign by. Show a person all of its SHA-256 in
                                       * base64, which OpenSSH calls its fingerprint, or all of its base64, which the .pub file has, and
-                                      * let it type parts that you draw. A yes accepts the key; a signature is verified after it */
+                                      * let it type parts that you draw. The server's signature is verified after your yes to its
+                                      * key; a user's has been verified where REZDOLIN_QUESTION_SIGNED is 1 */
     REZDOLIN_QUESTION_PASSWORD = 7,  /* of a user: the password, secret. Compare it in a time that doesn't tell where it differs */
-    REZDOLIN_QUESTION_INPUT = 7      /* of a signature: what is to be signed */
+    REZDOLIN_QUESTION_INPUT = 7,     /* of a signature: what is to be signed */
+    REZDOLIN_QUESTION_SIGNED = 8     /* of a user: one byte, 1 where the request has a signature by this key, which has been verified:
+                                      * a yes accepts the user by this key, unless `required` has more, and you can log a login. Else
+                                      * 0: with PUBLICKEY the client only asks whether the key would do, and a yes accepts nobody. Of
+                                      * a host key and of a signature no byte */
 };
 
 /* Where a field of a session's record or of a question stands, and how many bytes it has; null where there is no such field. Each

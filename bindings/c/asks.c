@@ -12,6 +12,11 @@ static rezdolin_bytes asked(int server, size_t number, unsigned field) {
     return field_in(questions[server][number], lengths[server][number], field);
 }
 
+/* Whether a question of the server's has this flag: 1 where a signature has been verified, 0 where there is none. */
+static bool is_signed(size_t number, uint8_t flag) {
+    return is_byte(asked(1, number, REZDOLIN_QUESTION_SIGNED), flag);
+}
+
 /* What the server's directory says: whether the user is accepted by what the request proves, or would be by the key. */
 static bool is_accepted(uint8_t *question, size_t len) {
     if (!is(field_in(question, len, REZDOLIN_QUESTION_USER), "al"))
@@ -60,7 +65,8 @@ static void decisions(void) {
                                       && is(asked(0, 0, REZDOLIN_QUESTION_ALGORITHM), "ssh-ed25519")
                                       && equal(asked(0, 0, REZDOLIN_QUESTION_KEY), s.trusted)
                                       && is(asked(0, 0, REZDOLIN_QUESTION_USER), "")
-                                      && is(asked(0, 0, REZDOLIN_QUESTION_NUMBER), ""));
+                                      && is(asked(0, 0, REZDOLIN_QUESTION_NUMBER), "")
+                                      && is(asked(0, 0, REZDOLIN_QUESTION_SIGNED), ""));
     bool same = true;
     for (size_t i = 0; i < 2; i++)
         same = same && is_byte(asked(1, i, REZDOLIN_QUESTION_KIND), REZDOLIN_ASKS_USER)
@@ -70,7 +76,8 @@ static void decisions(void) {
                && is(asked(1, i, REZDOLIN_QUESTION_ALGORITHM), "ssh-ed25519")
                && equal(asked(1, i, REZDOLIN_QUESTION_KEY), s.users[0].proof) && is(asked(1, i, REZDOLIN_QUESTION_PASSWORD), "");
     row("what a server is asked of a key", same);
-    row("there are 8 fields", asked(0, 0, 8).at == NULL && asked(1, 0, 8).at == NULL);
+    row("a query has no signature, a request has one", is_signed(0, 0) && is_signed(1, 1));
+    row("there are 9 fields", asked(0, 0, 9).at == NULL && asked(1, 0, 9).at == NULL);
     begin(&other, 1);
     meet(&other, 65536);
     row("lists and answers send the same", is_same_talk(&s, &other));
@@ -85,11 +92,12 @@ static void decisions(void) {
     row("a key no, a password yes", are_authenticated(&s) && counts[1] == 2
                                         && number_in(asked(1, 1, REZDOLIN_QUESTION_METHOD)) == REZDOLIN_METHOD_PASSWORD
                                         && is(asked(1, 1, REZDOLIN_QUESTION_PASSWORD), "secret")
-                                        && is(asked(1, 1, REZDOLIN_QUESTION_KEY), "") && is_byte(field(&s, SERVER, REZDOLIN_BY_PASSWORD), 1));
+                                        && is(asked(1, 1, REZDOLIN_QUESTION_KEY), "") && is_signed(0, 0) && is_signed(1, 0)
+                                        && is_byte(field(&s, SERVER, REZDOLIN_BY_PASSWORD), 1));
     begin_asking(3);
     s.plan[0].ask = 0;
     meet(&s, 65536);
-    row("a signed key, without a query", are_authenticated(&s) && counts[1] == 1 && field(&s, SERVER, REZDOLIN_BY_KEY).len == 51);
+    row("a signed key, without a query", are_authenticated(&s) && counts[1] == 1 && is_signed(0, 1) && field(&s, SERVER, REZDOLIN_BY_KEY).len == 51);
     begin_asking(4);
     accepts[1] = accepts[2] = false;
     meet(&s, 65536);
@@ -101,11 +109,12 @@ static void decisions(void) {
     begin_asking(6);
     s.plan[0].method = REZDOLIN_METHOD_NONE;
     meet(&s, 65536);
-    row("nothing proved is asked", are_authenticated(&s) && counts[1] == 2 && number_in(asked(1, 0, REZDOLIN_QUESTION_METHOD)) == REZDOLIN_METHOD_NONE);
+    row("nothing proved is asked", are_authenticated(&s) && counts[1] == 2 && number_in(asked(1, 0, REZDOLIN_QUESTION_METHOD)) == REZDOLIN_METHOD_NONE
+                                       && is_signed(0, 0));
     begin_asking(7);
     s.server.required = TEXT("publickey,password");
     meet(&s, 65536);
-    row("both required", are_authenticated(&s) && counts[1] == 3);
+    row("both required", are_authenticated(&s) && counts[1] == 3 && is_signed(0, 0) && is_signed(1, 1) && is_signed(2, 0));
     begin_asking(8);
     s.client.trusted_host_keys_len = 1;
     s.server.users_len = 2;

@@ -462,6 +462,7 @@ static void signatures(void) {
     row("a client's question for a signature", is(field_in(asked[CLIENT], asked_len[CLIENT], REZDOLIN_QUESTION_ALGORITHM), "ssh-ed25519")
                                                    && equal(field_in(asked[CLIENT], asked_len[CLIENT], REZDOLIN_QUESTION_KEY), s.users[0].proof)
                                                    && is(field_in(asked[CLIENT], asked_len[CLIENT], REZDOLIN_QUESTION_USER), "")
+                                                   && is(field_in(asked[CLIENT], asked_len[CLIENT], REZDOLIN_QUESTION_SIGNED), "")
                                                    && input.len > 37 && memcmp(input.at + 4, hash.at, 32) == 0 && input.at[36] == 50);
     row("a server's question for a signature", is(field_in(asked[SERVER], asked_len[SERVER], REZDOLIN_QUESTION_ALGORITHM), "ssh-ed25519")
                                                    && equal(field_in(asked[SERVER], asked_len[SERVER], REZDOLIN_QUESTION_KEY), s.trusted)
@@ -479,11 +480,13 @@ static void signatures(void) {
     begin_elsewhere(true, false, 0);
     spoils = true;
     meet(&s, 65536);
-    row("a wrong signature of a client", are_authenticated(&s) && is_byte(field(&s, SERVER, REZDOLIN_BY_PASSWORD), 1));
+    row("a wrong signature of a client, about which nobody is asked", are_authenticated(&s) && is_byte(field(&s, SERVER, REZDOLIN_BY_PASSWORD), 1)
+                                                                          && s.sides[SERVER].questions == 1);
     begin_elsewhere(true, false, 0);
     extra = 8192 - 83;
     meet(&s, 65536);
-    row("a signature with bytes after it", are_authenticated(&s) && is_byte(field(&s, SERVER, REZDOLIN_BY_PASSWORD), 1));
+    row("a signature with bytes after it", are_authenticated(&s) && is_byte(field(&s, SERVER, REZDOLIN_BY_PASSWORD), 1)
+                                               && s.sides[SERVER].questions == 1);
     begin_elsewhere(true, false, 0);
     extra = 8193 - 83;
     s.server.asks = 0;

@@ -282,14 +282,19 @@ class _Secret(_Single):
 class Question:
     """What an endpoint asks, by its `kind`. 'host key', of a client: is `key` the server's? 'user', of a server: is `user` accepted
     by `proof`, or would the key do? Both are answered by True or False. 'signature': one of `input`, by `key` and `algorithm`, as an
-    agent gives it, or None. All of it may be what the peer wants it to be."""
+    agent gives it, or None. All of it but `kind`, `number` and `signed` may be what the peer wants it to be.
+
+    `signed` is True where a user's request has a signature by `key`, which has been verified: a True accepts the user, unless more is
+    required, and can be logged as a login. Where `proof` is a Key and `signed` is False the client only asks whether the key would do:
+    a True accepts nobody."""
 
     def __init__(self, record):
-        kind, number, self.user, self.service, method, self.algorithm, self.key, last = _fields(record)
+        kind, number, self.user, self.service, method, self.algorithm, self.key, last, signed = _fields(record)
         self.kind, self.number = KINDS[kind[0]], int.from_bytes(number, 'big')
         proofs = {Nothing.method: Nothing, Password.method: lambda: Password(last), Key.method: lambda: Key(self.key)}
         self.proof = proofs[int.from_bytes(method, 'big')]() if self.kind == 'user' else None
         self.input = last if self.kind == 'signature' else None
+        self.signed = signed == b'\x01'
 
 
 class Link(_Sequence):

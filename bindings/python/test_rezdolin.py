@@ -182,6 +182,23 @@ class Memory(unittest.TestCase):
         with self.assertRaises(ValueError):
             client.answer(True)
 
+    def test_tells_a_query_from_a_signature(self):
+        def decide(question):
+            if question.kind == 'user':
+                asked.append((question.number, type(question.proof), question.signed))
+            else:
+                self.assertIs(question.signed, False)
+            return b'none of this key' if question.kind == 'signature' else True
+
+        # nobody is asked about the request with a wrong signature, which is the second one
+        for proof, wanted in ((Key(USER), [(1, Key, False), (2, Key, True)]), (Signed(public_key(USER)), [(1, Key, False), (3, Password, False)]),
+                              (Nothing(), [(1, Nothing, False)])):
+            asked = []
+            client, server = Client('al', [proof, Password(b'secret')]), Server(HOST)
+            meet(client, server, 1000, decide)
+            self.assertTrue(client.is_authenticated and server.is_authenticated)
+            self.assertEqual(asked, wanted)
+
     def test_waits(self):
         client, server, to_server = come_to_question()
         question, left = client.question, client.left
@@ -765,7 +782,7 @@ class Agents(unittest.TestCase):
 
     def test_signs(self):
         def decide(question):
-            asked.append((question.kind, question.key))
+            asked.append((question.kind, question.key, question.signed))
             if question.kind == 'signature':
                 return self.agent.sign(question)
             return question.key == (user if question.kind == 'user' else public_key(HOST))
@@ -776,7 +793,7 @@ class Agents(unittest.TestCase):
                 client, server = Client('al', [Signed(user)]), Server(HOST)
                 meet(client, server, size, decide)
                 self.assertTrue(client.is_authenticated and server.is_authenticated, (client.fault, server.fault))
-                self.assertEqual(asked, [('host key', public_key(HOST)), ('user', user), ('signature', user), ('user', user)])
+                self.assertEqual(asked, [('host key', public_key(HOST), False), ('user', user, False), ('signature', user, False), ('user', user, True)])
                 self.assertEqual(server.link().fields[19], user)
 
     def test_verifies(self):

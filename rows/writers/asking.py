@@ -1,9 +1,11 @@
 """Endpoints that ask and wait, which the lines of their rows answer: what they ask, that they use and say nothing before the answer, what
 they go on with, how often a signature is verified, and calls out of their order."""
 from lab import *
+import notices
 from auth import direction
 from disconnecting import told
-from requests import FAILURE, LET_IN, NO_NAMES, half, key_fields, long_query, request, signed
+from notices import debug, of_text
+from requests import FAILURE, LET_IN, NO_NAMES, half, key_fields, long_query, request, signed, wrong_signature
 
 AL = ["client try al ssh-connection none"]
 BYE = b"bye"
@@ -24,6 +26,10 @@ def of_password(password):
 
 def of_key(key=BLOB, algorithm="h"):
     return "key %s %s" % (algorithm, hexa(key))
+
+
+def of_signed_key(key=BLOB, algorithm="h"):
+    return of_key(key, algorithm) + " signed"
 
 
 def answer(good):
@@ -80,6 +86,11 @@ def client(file):
     wrong.send(t.si)
     a.row("is answered yes, and the signature is wrong", feed(wrong.send(reply(t.hash, signature=bytes(32)))), host_key(), "says -", "verified 0",
           answer(True), "question nothing", says(packet(disconnect(3), 2, SEED[CLIENT])), "verified 1", "end failed F11")
+    a = Asking(file, CLIENT, strict=False)
+    t, s = a.t, Half(SERVER)
+    s.send(t.si)
+    a.row("is told before it is asked", feed(s.send(debug(1, b"a")), s.send(reply(t.hash))), host_key(), notices.told(of_text("debug", b"a")), "says -",
+          answer(True), notices.told(), says(t.c_newkeys, t.c_service), "end open")
 
 
 def server(file):
@@ -87,7 +98,7 @@ def server(file):
     a = Asking(file, SERVER)
     h = a.t.hash
     good = {"nothing": (by_none(), user(1, "none"), 0), "a password": (by_password(b"\x00"), user(1, of_password(b"\x00")), 0),
-            "an empty password": (by_password(b""), user(1, of_password(b"")), 0), "a key": (by_key(h), user(1, of_key()), 1),
+            "an empty password": (by_password(b""), user(1, of_password(b"")), 0), "a key": (by_key(h), user(1, of_signed_key()), 1),
             "nothing, for another user": (by_none("bo"), user(1, "none", "bo"), 0)}
     for name, (payload, asks, verified) in good.items():
         for yes in (True, False):
@@ -95,21 +106,22 @@ def server(file):
             request_, says_ = c.send(payload), s.send(SUCCESS if yes else FAILURE)
             end = "end open" if not yes else "end authenticated %s ssh-connection" % ("bo" if "another" in name else "al")
             a.row("is asked by %s, and the answer is %s" % (name, "yes" if yes else "no"), feed(request_), asks, "says -",
-                  "verified 0", "end open", answer(yes), "question nothing", says(says_), "verified %d" % (verified if yes else 0), end,
+                  "verified %d" % verified, "end open", answer(yes), "question nothing", says(says_), "verified 0", end,
                   [direction("in", c.seq, a.t.cs), direction("out", s.seq, a.t.sc)] if yes else [])
     for yes in (True, False):
         c, s = half(a.peer), half(a.own)
         a.row("is asked about a key, and the answer is %s" % ("yes" if yes else "no"), feed(c.send(by_query())), user(1, of_key()), "says -",
               "verified 0", answer(yes), "question nothing", says(s.send(pk_ok() if yes else FAILURE)), "verified 0", "end open")
-    wrong = request("al", "ssh-connection", "publickey", key_fields("h", signed(bytes(32), "h")))
-    for yes in (True, False):
-        for tries, says_, end in ((6, FAILURE, "open"), (1, disconnect(14), "failed F13")):
-            c, s = half(a.peer), half(a.own)
-            a.row("is asked by a wrong signature, of %d tries, and the answer is %s" % (tries, "yes" if yes else "no"), feed(c.send(wrong)),
-                  user(1, of_key()), "says -", "verified 0", answer(yes), "question nothing", says(s.send(says_)), "verified %d" % yes, "end " + end,
-                  settings=["server tries %d" % tries])
+    for tries, says_, end in ((6, FAILURE, "open"), (1, disconnect(14), "failed F13")):
+        c, s = half(a.peer), half(a.own)
+        a.row("asks nothing at a wrong signature, of %d tries" % tries, feed(c.send(wrong_signature())), "question nothing", says(s.send(says_)),
+              "verified 1", "end " + end, settings=["server tries %d" % tries])
+    c, s = half(a.peer), half(a.own)
+    a.row("asks nothing at twenty wrong signatures in one piece", feed(*[c.send(wrong_signature()) for _ in range(20)]), "question nothing",
+          says(*[s.send(FAILURE) for _ in range(19)], s.send(disconnect(14))), "verified 20", "end failed F13", settings=["server tries 20"])
     unasked(a, h)
     both(a, h)
+    telling(a, h)
 
 
 def unasked(a, h):
@@ -140,7 +152,7 @@ def both(a, h):
     c, s = half(a.peer), half(a.own)
     first, second = c.send(by_password(b"\x00")), c.send(by_key(h))
     a.row("is asked by both methods", feed(first), user(1, of_password(b"\x00")), answer(True), says(s.send(failure(partial=1))),
-          "verified 0", feed(second), user(2, of_key()), "says -", "verified 0", answer(True), says(s.send(SUCCESS)), "verified 1", "end " + LET_IN,
+          "verified 0", feed(second), user(2, of_signed_key()), "says -", "verified 1", answer(True), says(s.send(SUCCESS)), "verified 0", "end " + LET_IN,
           settings=["server required password,publickey"])
     c, s = half(a.peer), half(a.own)
     first, second = c.send(by_none()), c.send(by_password(b"\x00"))
@@ -148,21 +160,35 @@ def both(a, h):
           user(2, of_password(b"\x00")), answer(False), says(s.send(disconnect(14))), "end failed F13", settings=["server tries 2"])
 
 
+def telling(a, h):
+    """What the peer tells people in front of a request is told before its question, and what it tells behind it after the answer, whatever the
+    signature."""
+    c, s = half(a.peer), half(a.own)
+    first, request_, last = c.send(debug(1, b"a")), c.send(by_key(h)), c.send(debug(1, b"b"))
+    a.row("is told before it is asked", part(len(first + request_), first, request_, last), user(1, of_signed_key()), notices.told(of_text("debug", b"a")),
+          "says -", part(0, last), answer(False), notices.told(), says(s.send(FAILURE)), feed(last), notices.told(of_text("debug", b"b")), "question nothing",
+          "end open")
+    c, s = half(a.peer), half(a.own)
+    wrong = c.send(debug(1, b"a")) + c.send(wrong_signature()) + c.send(debug(1, b"b"))
+    a.row("is told around a wrong signature", feed(wrong, c.send(by_key(h))), user(2, of_signed_key()), "verified 2", says(s.send(FAILURE)),
+          notices.told(*[of_text("debug", text) for text in (b"a", b"b")]), answer(True), says(s.send(SUCCESS)), notices.told(), "end " + LET_IN)
+
+
 def counted(file):
-    """A signature is verified once, after a yes, however often the question is looked at and however the pieces are cut."""
+    """A signature is verified once, before its user is asked about, however often the question is looked at and however the pieces are cut."""
     a = Asking(file, SERVER)
     c, s = half(a.peer), half(a.own)
     request_ = c.send(by_key(a.t.hash))
-    asks = [user(1, of_key()), "says -"]
-    a.row("verifies a signature once", feed(request_[:20]), "verified 0", "held 20", "question nothing", feed(request_[20:]), asks, "verified 0", asks,
-          part(0, request_), asks, "verified 0", answer(True), says(s.send(SUCCESS)), "verified 1", "end " + LET_IN)
+    asks = [user(1, of_signed_key()), "says -"]
+    a.row("verifies a signature once", feed(request_[:20]), "verified 0", "held 20", "question nothing", feed(request_[20:]), asks, "verified 1", asks,
+          part(0, request_), asks, "verified 0", answer(True), says(s.send(SUCCESS)), "verified 0", "end " + LET_IN)
     c, s = half(a.peer), half(a.own)
     steps = []
     for number in range(1, 6):
         steps += [feed(c.send(by_query())), user(2 * number - 1, of_key()), "verified 0", answer(True), says(s.send(pk_ok())), "verified 0",
-                  feed(c.send(by_key(a.t.hash))), user(2 * number, of_key()), "verified 0", answer(number == 5),
-                  says(s.send(SUCCESS if number == 5 else FAILURE)), "verified %d" % (number == 5)]
-    a.row("verifies no query, and a request after a yes", steps, "end " + LET_IN, settings=["server tries 20"])
+                  feed(c.send(by_key(a.t.hash))), user(2 * number, of_signed_key()), "verified 1", answer(number == 5),
+                  says(s.send(SUCCESS if number == 5 else FAILURE)), "verified 0"]
+    a.row("verifies no query, and each request once", steps, "end " + LET_IN, settings=["server tries 20"])
 
 
 def out_of_order(file):

@@ -8,7 +8,7 @@ from aes_ctr import PAIRS
 from auth import LET_IN
 from deployed_sessions import HOST, KEY, SHARE, DeployedReceiver, reply_of, shared_of, signature_by
 from hostile import Session, flipped, judged
-from signatures import by_signature, input_of
+from signatures import by_signature
 
 USER = bytes(range(64, 96))
 USER_KEY = deployed.wrapped(deployed.key_of(USER))
@@ -216,7 +216,7 @@ def whole(file, way, strict):
              "end " + LET_IN, t.agreed(), handed(CLIENT, t), linked(CLIENT, t))
     file.row("a server over " + name, t.lines(SERVER), "server required password,publickey", "waiting server deployed", says(t.s_first), feed(t.c_first, t.c_init),
              says(t.s_reply, t.s_newkeys), feed(t.c_newkeys, t.c_service), says(t.s_accept), feed(first), "question user 1 al ssh-connection password 00", "answer yes",
-             says(partial), feed(second), "question user 2 al ssh-connection key %s %s" % (ALGORITHM, USER_KEY.hex()), "answer yes", says(success), "verified 1",
+             says(partial), feed(second), "question user 2 al ssh-connection key %s %s signed" % (ALGORITHM, USER_KEY.hex()), "verified 1", "answer yes", says(success), "verified 0",
              "end " + LET_IN, t.agreed(), handed(SERVER, t), linked(SERVER, t))
 
 

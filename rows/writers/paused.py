@@ -5,7 +5,7 @@ import ciphers
 from receiver import fields_of
 from requests import is_name
 
-VERSION = 3
+VERSION = 4
 PHASES = ("kexinit", "exchange", "newkeys", "service", "auth")
 MPINT, OCTETS, HYBRID = range(3)
 LINE_LIMIT, PACKET_LIMIT, DIGEST_LIMIT, BLOB_LIMIT, TRIES_LIMIT = 255, 35000, 64, 8192, 20
@@ -20,7 +20,7 @@ class Unreadable(Exception):
 class Record:
     """What stands in a record; at first that of an endpoint which has received nothing. Keys are a Keys of lab.py or None; algorithms
     eight names or None; `lines` how many other lines are taken and the unfinished one, or None; `packets` keys, number and the unfinished
-    packet; `waiting` the number and the payload of a packet or None; `suite` what it is written over; `missing` how many bytes more are
+    packet; `waiting` the payload of a packet or None; `suite` what it is written over; `missing` how many bytes more are
     wanted, where that isn't what they are."""
 
     def __init__(self, role, left=0, **parts):
@@ -52,7 +52,7 @@ class Record:
         else:
             keys, number, _ = self.packets
             out += [1, *maybe(parts_of(keys)), number]
-        out += maybe(self.waiting)
+        out += maybe(None if self.waiting is None else [self.waiting])
         return b"".join(string(x) if isinstance(x, bytes) else u32(x) for x in out)
 
     def held(self):
@@ -62,7 +62,7 @@ class Record:
     def wanted(self, suite):
         """How many bytes more are wanted before anything comes of them: up to the end of the field of the packet's length, then up to the
         packet's end; none of a line, of which each byte is looked at, and none where a packet waits."""
-        if self.lines or self.waiting:
+        if self.lines or self.waiting is not None:
             return 0
         keys, number, held = self.packets
         return max(0, whole_len(suite, keys, number, held) - len(held))
@@ -144,7 +144,7 @@ class Text:
             r.lines, r.packets = None, (self.maybe(self.keys), self.number(), held)
         else:
             r.lines = (self.number(), held)
-        r.waiting = self.maybe(lambda: (self.number(), self.most(PACKET_LIMIT)))
+        r.waiting = self.maybe(lambda: self.most(PACKET_LIMIT))
         if self.rest:
             raise Unreadable
         return r
@@ -184,6 +184,10 @@ class Lab:
     @staticmethod
     def can_sign(algorithm):
         return True
+
+    @staticmethod
+    def is_signed(key, data, signature):
+        return is_signed_by(key, data, signature)
 
     @staticmethod
     def responds(kex, theirs):
@@ -255,7 +259,7 @@ def fits(r, config):
     else:
         reads_on = is_unfinished(config.suite, *r.packets)
     idle = r.lines is None and r.packets[2] == b""
-    return reads_on and r.missing == r.wanted(config.suite) and (r.waiting is None or idle and asks(r, config, r.waiting[1]))
+    return reads_on and r.missing == r.wanted(config.suite) and (r.waiting is None or idle and asks(r, config, r.waiting))
 
 
 def whole_len(suite, keys, number, held):
@@ -331,11 +335,10 @@ def attempt_asks(config, left):
 
 
 def request_asks(r, config, payload):
-    """Whether a request asks (RFC 4252 sections 5 to 8)."""
+    """Whether a request asks (RFC 4252 sections 5 to 8): one by a key only by a signature that is right in the record's session."""
     text = Text(payload[1:])
     try:
-        text.utf8()
-        service_name, method = text.bytes(), text.bytes()
+        user, service_name, method = text.utf8(), text.bytes(), text.bytes()
         if method == b"none":
             return not text.rest and in_list(service_name, config.services)
         if method not in (b"password", b"publickey"):
@@ -343,16 +346,18 @@ def request_asks(r, config, payload):
         flag = text.take(1) != b"\x00"
         algorithm = text.bytes() if flag or method == b"publickey" else None
         key = text.bytes()
-        if method == b"publickey" and flag:
-            text.bytes()
+        signature = text.bytes() if method == b"publickey" and flag else None
     except Unreadable:
         return False
     if text.rest or not in_list(service_name, config.services) or not in_list(method, config.methods):
         return False
     if method == b"password":
         return not flag
-    named = is_name(algorithm) and config.suite.can_sign(algorithm.decode())
-    return named and (flag or r.request < config.tries and len(key) <= BLOB_LIMIT)
+    if not is_name(algorithm) or not config.suite.can_sign(algorithm.decode()):
+        return False
+    if flag:
+        return config.suite.is_signed(key, input_of(r.session, user, service_name, algorithm, key), signature)
+    return r.request < config.tries and len(key) <= BLOB_LIMIT
 
 
 def in_list(name, names):

@@ -173,7 +173,7 @@ class Receiver:
 
     @staticmethod
     def is_signed(key, h, signature):
-        return signature == sha(string(key), string(h))
+        return is_signed_by(key, h, signature)
 
     @staticmethod
     def keys_of(sender, k, h):

@@ -4,12 +4,12 @@ import copy
 
 from lab import *
 import paused
-from asking import answer, host_key, of_key, of_password, user
+from asking import answer, host_key, of_key, of_password, of_signed_key, user
 from ctr_sessions import ALL, ALGORITHM, ETM, GCM, METHOD, PLAIN, CipherTalk
 from deployed_sessions import CIPHER, KEY, DeployedTalk
 from paused import Deployed, Elsewhere, Lab, Config, Record, reads, spoilt
-from requests import FAILURE, LET_IN, half
-from signatures import by_signature, input_of, to_sign
+from requests import FAILURE, LET_IN, half, wrong_signature
+from signatures import by_signature, to_sign
 
 TEXT = LINE[:-2]
 NONE, PASSWORD, QUERY = ("al", "ssh-connection", None), ("al", "ssh-connection", b"\x00"), ("al", "ssh-connection", ("h", b"\x00", True))
@@ -48,7 +48,7 @@ def client(t, plan=(NONE,)):
     clear = 1 + t.guess + bool(t.c_init)
     r.put(phase=1, first=False, strict=t.strict, kexinit=t.si, algorithms=names(t), number=clear, packets=(None, 1, b""))
     yield "behind KEXINIT", [t.s_first[len(LINE):]], None, [t.c_init], r
-    r.put(packets=(None, 2, b""), waiting=(1, reply(t.hash)))
+    r.put(packets=(None, 2, b""), waiting=reply(t.hash))
     yield "at the host key question", [t.s_reply], host_key(), [], r
     r.put(phase=2, waiting=None, session=t.hash, pending=t.sc, own_version=TEXT, host_key=BLOB, keys=t.cs, number=1 if t.strict else clear + 2)
     yield "behind the answer", answer(True), None, [t.c_newkeys, t.c_service], r
@@ -105,7 +105,7 @@ def rows(file):
                 end = [feed(half(t.s).send(SUCCESS)), "says -", "end " + LET_IN, "record none"]
             else:
                 request_ = half(t.c).send(by_none())
-                end = [feed(request_), user(1, "none"), record(r.put(packets=(t.cs, t.c.seq + 1, b""), waiting=(t.c.seq, by_none()))), answer(True),
+                end = [feed(request_), user(1, "none"), record(r.put(packets=(t.cs, t.c.seq + 1, b""), waiting=by_none())), answer(True),
                        says(half(t.s).send(SUCCESS)), "end " + LET_IN, "record none"]
             file.row("a %s, %s" % (role, name), t.lines(), tries([NONE]), act, lines, end)
     at_rest(file)
@@ -155,30 +155,34 @@ def asking(file):
     lines, r = steps_of(client(t), "at the host key question")
     file.row("a client is spoilt at the host key question", tries([NONE]), "waiting client", lines, judged(r, Config(CLIENT, plan=[NONE])), host_key(), answer(True),
              says(t.c_newkeys, t.c_service), "verified 1", "end open")
-    payloads = {"nothing": (by_none(), "none"), "a password": (by_password(b"\x00"), of_password(b"\x00")), "a key": (by_key(t.hash), of_key()),
-                "a query": (by_query(), of_key())}
+    payloads = {"nothing": (by_none(), "none"), "a password": (by_password(b"\x00"), of_password(b"\x00")),
+                "a key": (by_key(t.hash), of_signed_key()), "a query": (by_query(), of_key())}
     for name, (payload, asks) in payloads.items():
         c, s = half(t.c), half(t.s)
         lines, r = steps_of(server(t))
         lines += [feed(c.send(by_password(b"\x01"))), user(1, of_password(b"\x01")), answer(False), says(s.send(FAILURE)), feed(c.send(payload)), user(2, asks)]
-        r.put(request=2, number=s.seq, packets=(t.cs, c.seq, b""), waiting=(c.seq - 1, payload))
-        file.row("a server is spoilt at a question on %s" % name, "waiting server", lines, judged(r, Config(SERVER)), user(2, asks), answer(True),
-                 says(s.send(pk_ok() if name == "a query" else SUCCESS)), "end " + ("open" if name == "a query" else LET_IN))
+        r.put(request=2, number=s.seq, packets=(t.cs, c.seq, b""), waiting=payload)
+        file.row("a server is spoilt at a question on %s" % name, "waiting server", lines, "verified %d" % (name == "a key"), judged(r, Config(SERVER)),
+                 user(2, asks), answer(True), says(s.send(pk_ok() if name == "a query" else SUCCESS)), "verified 0",
+                 "end " + ("open" if name == "a query" else LET_IN))
 
 
 def in_authentication(file):
     """A server after a partial success, and a client whose query waits for its answer while attempts are left."""
     t = Talk()
     both = ["server required password,publickey"]
-    for name, first, second, asks in (("a password", by_password(b"\x00"), by_key(t.hash), (of_password(b"\x00"), of_key())),
-                                      ("a key", by_key(t.hash), by_password(b"\x00"), (of_key(), of_password(b"\x00")))):
+    for name, first, second, asks in (("a password", by_password(b"\x00"), by_key(t.hash), (of_password(b"\x00"), of_signed_key())),
+                                      ("a key", by_key(t.hash), by_password(b"\x00"), (of_signed_key(), of_password(b"\x00")))):
         c, s = half(t.c), half(t.s)
         lines, r = steps_of(server(t))
         lines += [feed(c.send(first)), user(1, asks[0]), answer(True), says(s.send(failure(partial=1)))]
         r.put(request=2, number=s.seq, packets=(t.cs, c.seq, b""), user=b"al", service=b"ssh-connection")
         r.put(**({"password": True} if name == "a password" else {"publickey": True, "user_key": (b"h", BLOB)}))
-        file.row("a server is spoilt behind %s, one of two methods" % name, both, "waiting server", lines, judged(r, Config(SERVER)), feed(c.send(second)),
-                 user(2, asks[1]), answer(True), says(s.send(SUCCESS)), "end " + LET_IN)
+        forgets(file, name, both, lines, copy.deepcopy(r), half(c), half(s))
+        lines += [judged(r, Config(SERVER)), feed(c.send(wrong_signature())), "question nothing", says(s.send(FAILURE))]
+        lines.append(record(r.put(request=3, number=s.seq, packets=(t.cs, c.seq, b""))))
+        file.row("a server is spoilt behind %s, one of two methods" % name, both, "waiting server", lines, feed(c.send(second)), user(3, asks[1]), answer(True),
+                 says(s.send(SUCCESS)), "end " + LET_IN)
     plan = [PASSWORD, QUERY, NONE]
     c, s = half(t.c), half(t.s)
     lines, r = steps_of(client(t, plan))
@@ -189,6 +193,14 @@ def in_authentication(file):
     lines += [judged(r, config), feed(s.send(pk_ok())), says(c.send(by_key(t.hash)))]
     file.row("a client is spoilt while its query waits", tries(plan), "waiting client", lines,
              judged(r.put(confirmed=True, number=c.seq, packets=(t.sc, s.seq, b"")), config), "end open")
+
+
+def forgets(file, name, both, lines, r, c, s):
+    """A server that has one of two methods: a request of another user empties that, also where its signature is wrong."""
+    keys = r.packets[0]
+    wrong = [feed(c.send(wrong_signature("bo"))), "question nothing", says(s.send(FAILURE))]
+    r.put(request=3, number=s.seq, packets=(keys, c.seq, b""), password=False, publickey=False)
+    file.row("a server forgets %s at another user's wrong signature" % name, both, "waiting server", lines, wrong, record(r), "end open")
 
 
 def signing(file):
@@ -204,14 +216,14 @@ def signing(file):
     lines, r = steps_of(client(t, plan))
     c.send(by_password(b"\x00"))
     refused = s.send(failure(("publickey",)))
-    r.put(packets=(t.sc, s.seq, b""), waiting=(s.seq - 1, failure(("publickey",))))
+    r.put(packets=(t.sc, s.seq, b""), waiting=failure(("publickey",)))
     file.row("a client is spoilt at a question for a signature", setting, "waiting client elsewhere", lines, feed(refused), question.words,
              judged(r, Config(CLIENT, Elsewhere, plan)), question.words, question.reply, says(c.send(by_signature(signature))), "signed 0", "end open")
     # a server's
     config = Config(SERVER, Elsewhere, private=BLOB)
     lines, r = steps_of(server(t), "behind KEXINIT")
     question = to_sign(0, t.hash, sign("h", b"\x00", t.hash))
-    r.put(packets=(None, 2, b""), waiting=(1, INIT))
+    r.put(packets=(None, 2, b""), waiting=INIT)
     file.row("a server is spoilt at a question for a signature", "server hostkey h " + hexa(BLOB), "waiting server elsewhere", lines, feed(t.c_init), question.words,
              "responded 1", "digested 1", judged(r, config), "responded 0", "digested 0", question.words, question.reply, says(t.s_reply, t.s_newkeys), "end open")
 
@@ -267,7 +279,7 @@ def of_ctr(file, way, strict, is_spoilt):
         lines += [feed(request_[:5]), record(own.put(packets=(before, seq, request_[:5])))]
         if n == 2 and is_spoilt:
             lines += judged(own, Config(SERVER, Deployed))
-        lines += [feed(request_[5:]), user(n, of_password(payload[-1:])), record(own.put(packets=(c.keys, c.seq, b""), waiting=(seq, payload)))]
+        lines += [feed(request_[5:]), user(n, of_password(payload[-1:])), record(own.put(packets=(c.keys, c.seq, b""), waiting=payload))]
         client += [feed(heard), says(request_), record(of_client.put(phase=4, left=3 - n, keys=c.keys, number=c.seq, packets=(s.keys, s.seq, b"")))]
         before, seq = s.keys, s.seq
         heard = s.send(answers)
@@ -294,7 +306,8 @@ def others(file):
             lines += takes(r.text())
         last = seen[-1][1]
         with_ = lambda **parts: copy.deepcopy(last).put(**parts).text()
-        lines += takes(b"", u32(0), u32(1), u32(3), u32(4), b"\x00\x00\x00", u32(2) + last.text()[4:], u32(4) + last.text()[4:], u32(0) + last.text()[4:], bytes(200))
+        before, after, rest = u32(paused.VERSION - 1), u32(paused.VERSION + 1), last.text()[4:]
+        lines += takes(b"", u32(0), u32(1), before, u32(paused.VERSION), after, b"\x00\x00\x00", before + rest, after + rest, u32(0) + rest, bytes(200))
         # of the other role, and of another config
         lines += takes(*(r.text() for _, _, _, _, r in (server(t) if role == CLIENT else client(t))))
         other_ = Talk(strict=False, guess=True, crossed=True)
@@ -314,10 +327,11 @@ def others(file):
         # how many bytes are missing
         lines += takes(*(with_(packets=(None, 0, held), missing=n) for held, n in ((b"", 4), (b"", 0), (b"", 5), (b"\x00", 3), (b"\x00", 4), (u32(12), 12), (u32(12), 11),
                                                                                   (u32(12), 4), (u32(12) + bytes(11), 1), (u32(12) + bytes(11), 2 ** 32 - 1))),
-                       with_(lines=(3, b"x"), missing=0), with_(lines=(3, b"x"), missing=1), with_(waiting=(7, by_none()), missing=4))
-        waits = lambda payload, number=7, **parts: with_(waiting=(number, payload), **parts)
+                       with_(lines=(3, b"x"), missing=0), with_(lines=(3, b"x"), missing=1), with_(waiting=by_none(), missing=4))
+        waits = lambda payload, **parts: with_(waiting=payload, **parts)
         lines += takes(*(waits(payload) for payload in (b"", by_none(), by_query(), failure(), SUCCESS, pk_ok(), reply(t.hash), INIT, b"\x32", b"\x02" + string(b""))),
-                       waits(by_none(), 2 ** 32 - 1), waits(by_none(), guess=True), waits(by_none() + b"\x00"), waits(by_none(service_name="odd")),
+                       waits(by_key(t.hash)), waits(by_key(t.hash), session=bytes(32)), waits(wrong_signature()), waits(wrong_signature(), session=bytes(32)),
+                       waits(by_none(), guess=True), waits(by_none() + b"\x00"), waits(by_none(service_name="odd")),
                        waits(by_none(), packets=(t.cs, 4, b"\x01")), waits(by_none(), lines=(0, b"")), waits(by_query(), request=5), waits(by_query(), request=6),
                        waits(by_none(), phase=3), waits(reply(t.hash), phase=1, keys=None), waits(INIT, phase=1, keys=None))
         file.row("a %s is made of other bytes" % role, tries([PASSWORD, QUERY]) if role == CLIENT else [], "waiting " + role, says(t.c_first if role == CLIENT else t.s_first),

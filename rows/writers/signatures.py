@@ -2,8 +2,9 @@
 answer, what they go on with, by what is made in place of a signature that is refused, and what asks nothing. Their configs have the
 public key in the place of the private one."""
 import deployed
+import notices
 from lab import *
-from asking import BYE, NOTHING, answer, of_key, of_password
+from asking import BYE, NOTHING, answer, of_password, of_signed_key
 from auth import direction
 from configs import over_deployed, over_lab
 from deployed_sessions import CIPHER, DeployedTalk
@@ -24,11 +25,6 @@ REFUSALS = {"unsigned": (None, "answer unsigned"), "yes": (None, answer(True)), 
 
 def tries(*proofs, name="al", service_name="ssh-connection"):
     return ["client try %s %s %s" % (name, service_name, proof) for proof in proofs]
-
-
-def input_of(h, name="al", service_name="ssh-connection", algorithm="h", key=BLOB):
-    """What the request of a key has signed (RFC 4252 section 7)."""
-    return string(h) + b"\x32" + string(name) + string(service_name) + string("publickey") + b"\x01" + string(algorithm) + string(key)
 
 
 def by_signature(signature, name="al", service_name="ssh-connection", algorithm="h", key=BLOB):
@@ -137,6 +133,7 @@ def rows(file):
         client_plans(a, name)
         client_queries(a, name)
         server_signs(Signing(file, SERVER, **how), name)
+    client_told(Signing(file, CLIENT))
     client_unasked(Signing(file, CLIENT))
     server_unasked(file)
     kinds(file)
@@ -220,6 +217,18 @@ def client_queries(a, name):
         "end failed F6 60", "session none")
 
 
+def client_told(a):
+    """What the answer to the attempt before tells people is told before the signature is asked for."""
+    t, name = a.t, a.file.short
+    c, s = half(t.c), half(t.s)
+    question = to_sign(0, a.input, a.signature)
+    a.file.row("a client is told before it is asked", tries(NOBODY, KEY), "waiting client elsewhere", feed(name(t.s_first)), says(name(t.c_first), name(t.c_init)),
+               feed(name(t.s_reply)), to_trust().words, answer(True), says(name(t.c_newkeys), name(t.c_service)), feed(name(t.s_newkeys), name(t.s_accept)),
+               says(c.send(by_none())), feed(s.send(banner("hi")), s.send(FAILURE)), question.words,
+               notices.told(notices.of_text("banner", b"hi"), notices.of_failure("password,publickey", 0)), "says -", question.reply, "question nothing",
+               notices.told(), says(c.send(by_signature(a.signature))), "end open")
+
+
 def client_unasked(a):
     """What makes no attempt by a key asks for no signature."""
     unexpected = [disconnect(2)]
@@ -247,7 +256,7 @@ def client_unasked(a):
 def server_signs(a, name):
     """The exchange hash is signed by the answer, whatever that is; without one the exchange fails as F9."""
     settings = ["allow al none", "allow al publickey h 00"]
-    request_ = (by_key(a.t.hash), to_accept(1, of_key(), True), [SUCCESS])
+    request_ = (by_key(a.t.hash), to_accept(1, of_signed_key(), True), [SUCCESS])
     a.both("is answered with the signature, " + name, settings, [
         (a.ready(), to_sign(0, a.t.hash, a.signature), [reply(a.t.hash), NEWKEYS]),
         ([a.t.c_newkeys, a.t.c_service], None, [service(6, "ssh-userauth")]), request_], "verified 1", EXCHANGED, a.let_in(1, 1))
@@ -299,7 +308,7 @@ def kinds(file):
         refused = [s.send(FAILURE), s.send(SUCCESS)]
         heard, said = file.short(t.c_first, t.c_init, t.c_newkeys, t.c_service), file.short(t.s_first, t.s_reply, t.s_newkeys, t.s_accept)
         file.row("a server whose user is answered %s" % what, "waiting server", feed(heard), says(said), feed(c.send(by_key(t.hash))),
-                 to_accept(1, of_key(), True).words, line, "question nothing", says(refused[0]), "verified 0", "end open", feed(c.send(by_password(b"\x00"))),
+                 to_accept(1, of_signed_key(), True).words, "verified 1", line, "question nothing", says(refused[0]), "verified 0", "end open", feed(c.send(by_password(b"\x00"))),
                  to_accept(2, of_password(b"\x00"), True).words, answer(True), says(refused[1]), "end " + LET_IN)
 
 
@@ -400,9 +409,9 @@ def by_rsa(file):
         file.row("a client's key of %s is elsewhere, by its decisions" % name, setting, one, "deployed client", of_user.made, feed(t.s_first), says(t.c_first, t.c_init),
                  feed(t.s_reply), keys_out, asked("host_key"), "verified 1", feed(t.s_newkeys, t.s_accept), says(request_), asked(of_user.asked_words), feed(success),
                  "says -", "signed 0", end)
-        asks = "user 1 al ssh-connection key %s %s" % (name, host)
+        asks = "user 1 al ssh-connection " + of_signed_key(key, name)
         file.row("a server's key of %s is elsewhere, by its lines" % name, setting, "waiting server deployed", feed(t.c_first), says(t.s_first), feed(t.c_init),
                  of_host.words, "says -", of_host.reply, says(t.s_reply, t.s_newkeys), feed(t.c_newkeys, t.c_service), says(t.s_accept), feed(request_),
-                 "question " + asks, "verified 0", answer(True), says(success), "verified 1", "signed 0", end)
+                 "question " + asks, "verified 1", answer(True), says(success), "verified 0", "signed 0", end)
         file.row("a server's key of %s is elsewhere, by its decisions" % name, setting, "deployed server", of_host.made, feed(t.c_first), says(t.s_first), feed(t.c_init),
                  says(t.s_reply, t.s_newkeys), asked(of_host.asked_words), "signed 0", feed(t.c_newkeys, t.c_service), says(t.s_accept), "end open")

@@ -2,10 +2,10 @@
 import aes_ctr
 import aes_gcm
 from lab import *
-from requests import half
-from paused import Config, Record, spoilt
+from requests import half, wrong_signature
+from paused import VERSION, Config, Record, spoilt
 from sealing import wrong_going
-from signatures import KEY, by_signature, input_of, tries
+from signatures import KEY, by_signature, tries
 
 
 def rows(file):
@@ -57,13 +57,22 @@ def waiting(file, t):
     received = [t.c_first, t.c_init, t.c_newkeys, t.c_service]
     start = ["waiting server", feed(*received), says(t.s_first, t.s_reply, t.s_newkeys, t.s_accept)]
     by_key_ = feed(half(t.c).send(by_key(t.hash)))
-    asks = "question user 1 al ssh-connection key h " + hexa(BLOB)
+    key = "key h " + hexa(BLOB)
+    asks = "question user 1 al ssh-connection %s signed" % key
     sent, refused = says(half(t.s).send(SUCCESS)), says(half(t.s).send(failure()))
     let_in = "end authenticated al ssh-connection"
     file.row("one that waits asks nothing", start, by_key_, "question nothing", "end open")
-    for what in ("user 2 al ssh-connection key h " + hexa(BLOB), "user 1 bo ssh-connection key h " + hexa(BLOB), "user 1 al odd key h " + hexa(BLOB),
-                 "user 1 al ssh-connection none", "user 1 al ssh-connection key g " + hexa(BLOB), "user 1 al ssh-connection key h 00", "host_key h 00"):
+    for what in ("user 2 al ssh-connection %s signed" % key, "user 1 bo ssh-connection %s signed" % key, "user 1 al odd %s signed" % key,
+                 "user 1 al ssh-connection none", "user 1 al ssh-connection key g %s signed" % hexa(BLOB), "user 1 al ssh-connection key h 00 signed",
+                 "user 1 al ssh-connection " + key, "host_key h 00"):
         file.row("one that waits is said to ask %s" % what, start, by_key_, "question " + what, "end open")
+    for name, payload, proof in (("a query", by_query(), key), ("a password", by_password(b"\x00"), "password 00"), ("nothing", by_none(), "none")):
+        file.row("one that waits is said to ask about %s that is signed" % name, start, feed(half(t.c).send(payload)),
+                 "question user 1 al ssh-connection %s signed" % proof, "end open")
+    by_wrong = half(t.c).send(wrong_signature())
+    file.row("one that waits is asked by a wrong signature", start, feed(by_wrong), asks, says(half(t.s).send(failure())), "end open")
+    file.row("one that decides is asked by a wrong signature", "begin" + start[0][7:], start[1:], feed(by_wrong), says(half(t.s).send(failure())), asked(1),
+             "end open")
     file.row("one that waits has answered", start, by_key_, asks, sent, let_in)
     file.row("a no lets in", start, by_key_, asks, "answer no", sent, let_in)
     file.row("a yes is refused", start, by_key_, asks, "answer yes", refused, "end open")
@@ -73,8 +82,12 @@ def waiting(file, t):
     file.row("one that waits goes on behind the question", start, feed(half(t.c).send(by_key(t.hash)), b"\x00"), asks, "end open")
     for count in (0, 2):
         file.row("a signature is verified %d times" % count, start, by_key_, asks, "answer yes", sent, "verified %d" % count, let_in)
-    file.row("a signature is verified before the answer", start, by_key_, asks, "verified 1", "answer yes", sent, let_in)
-    file.row("a signature is verified after a no", start, by_key_, asks, "answer no", refused, "verified 1", "end open")
+    file.row("a signature isn't verified before the answer", start, by_key_, asks, "verified 0", "answer yes", sent, let_in)
+    file.row("a signature is verified after a yes", start, by_key_, asks, "verified 1", "answer yes", sent, "verified 1", let_in)
+    file.row("a signature is verified after a no", start, by_key_, asks, "verified 1", "answer no", refused, "verified 1", "end open")
+    for count in (0, 2):
+        file.row("a wrong signature is verified %d times" % count, start, feed(by_wrong), "question nothing", says(half(t.s).send(failure())),
+                 "verified %d" % count, "end open")
     file.row("no end behind an answer", start, by_key_, asks, "end open", "answer yes", sent)
     file.row("another count of one whose decisions answer", "begin" + start[0][7:], start[1:], "verified 1", "end open")
     file.row("no answer for one whose decisions answer", "begin" + start[0][7:], start[1:], "answer no", "end open")
@@ -166,7 +179,7 @@ def records(file, t):
     file.row("a server takes a client's record", start, "takes m " + Record(CLIENT).text().hex(), end)
     file.row("a client refuses its own record", "waiting client", says(t.c_first), "takes u " + Record(CLIENT).text().hex(), end)
     file.row("a record is another one's", start, "takes o " + text.hex(), end)
-    for version in (2, 4):
+    for version in (VERSION - 1, VERSION + 1):
         file.row("a record of version %d is unreadable" % version, start, "takes u " + (u32(version) + text[4:]).hex(), end)
         file.row("a record of version %d is taken" % version, start, "takes m " + (u32(version) + text[4:]).hex(), end)
     file.row("three bytes are of another version", start, "takes v 000000", end)

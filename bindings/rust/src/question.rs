@@ -4,7 +4,7 @@ use crate::door;
 use crate::link::fields_of;
 use std::fmt;
 
-/// A question. All of it may be what the peer wants it to be.
+/// A question. All of it but `number` and `signed` may be what the peer wants it to be.
 #[derive(Clone, PartialEq, Eq)]
 pub enum Question {
     /// Of a client: is this public key the server's? It is answered by yes or no.
@@ -14,8 +14,9 @@ pub enum Question {
         /// The public key, as the server sent it.
         key: Vec<u8>,
     },
-    /// Of a server: is this request successful, or would the key of this query do? It is answered by yes or no. A yes to a request
-    /// accepts the user, unless more is required.
+    /// Of a server: is what this request claims accepted, or would the key of this query do? It is answered by yes or no. A yes to a
+    /// request accepts the user, unless more is required; a yes to a query accepts nobody. A request whose signature is wrong is
+    /// refused without a question.
     User {
         /// The number of the request or query, counted from 1.
         number: u32,
@@ -23,8 +24,11 @@ pub enum Question {
         user: Vec<u8>,
         /// The service that is to start.
         service: Vec<u8>,
-        /// By what: nothing, a password, or a public key. The signature of a request by a key is verified after a yes; a query has none.
+        /// By what: nothing, a password, or a public key.
         proof: super::Proof,
+        /// Whether the request has a signature by this key, which has been verified: a yes to it can be logged as a login by the key.
+        /// A query has none, nor has a request by nothing or by a password.
+        signed: bool,
     },
     /// A signature by a key that is elsewhere. It is answered by the signature, or by none.
     Signature {
@@ -82,8 +86,8 @@ impl Question {
     /// The question of a record.
     pub(crate) fn new(record: &[u8]) -> Question {
         let fields: Vec<&[u8]> = fields_of(record).into_iter().map(|place| &record[place]).collect();
-        let [kind, number, user, service, method, algorithm, key, last] = fields[..] else {
-            unreachable!("a question has 8 fields");
+        let [kind, number, user, service, method, algorithm, key, last, signed] = fields[..] else {
+            unreachable!("a question has 9 fields");
         };
         let (algorithm, key) = (algorithm.to_vec(), key.to_vec());
         match kind {
@@ -98,6 +102,7 @@ impl Question {
             door::METHOD_PUBLICKEY => super::Proof::Key(key),
             other => unreachable!("a request has no method {other}"),
         };
-        Question::User { number: number_in(number), user: user.to_vec(), service: service.to_vec(), proof }
+        let signed = signed == [1];
+        Question::User { number: number_in(number), user: user.to_vec(), service: service.to_vec(), proof, signed }
     }
 }

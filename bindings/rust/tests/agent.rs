@@ -100,12 +100,14 @@ fn an_agent_signs_for_a_client_and_for_a_server() {
         let (mut to_server, mut to_client) = (Vec::new(), Vec::new());
         let mut client = Client::begin(ClientParts::asking(draws(1), "al", plan), &mut to_server).unwrap();
         let mut server = Server::begin(ServerParts::asking(draws(5), host_key), &mut to_client).unwrap();
+        let mut asked = Vec::new();
         while !(to_server.is_empty() && to_client.is_empty()) {
             server.step(&std::mem::take(&mut to_server), &mut to_client).unwrap();
             while let Stands::Asks(question) = server.stands().clone() {
                 match (&question, sign(&question)) {
                     (_, Some(signature)) => server.answer(Answer::Signature(&signature), &mut to_client).unwrap(),
-                    (Question::User { proof: Proof::Key(key), .. }, None) => {
+                    (Question::User { proof: Proof::Key(key), signed, .. }, None) => {
+                        asked.push(*signed);
                         server.answer(*key == blob, &mut to_client).unwrap();
                     }
                     _ => server.answer(false, &mut to_client).unwrap(),
@@ -121,6 +123,7 @@ fn an_agent_signs_for_a_client_and_for_a_server() {
             }
         }
         assert_eq!((client.stands(), server.stands()), (&Stands::Authenticated, &Stands::Authenticated));
+        assert_eq!(asked, [false, true]);
         assert_eq!(server.into_link(bytes(4)).unwrap().field(19), blob);
     }
 }

@@ -4,6 +4,7 @@ use rezdolin::{
     Answer, Client, ClientParts, Draws, HostKey, LinkFault, PeerReading, Proof, PublicKey, Question, Refused, Server,
     ServerParts, Stands, Verdict, is_signed, public_key, read_identity,
 };
+use std::cell::RefCell;
 
 const HOST: [u8; 32] = [9; 32];
 const USER: [u8; 32] = [8; 32];
@@ -290,6 +291,27 @@ fn asks_and_goes_on() {
     let (mut client, _) = meet_deciding(client, server, 1000, |_| Answer::No);
     assert_eq!(client.stands(), &Stands::Failed { fault: 10, detail: 0 });
     assert_eq!(client.answer(true, &mut Vec::new()), Err(Refused::Unasked));
+}
+
+#[test]
+fn a_query_is_told_from_a_verified_signature() {
+    let asked = RefCell::new(Vec::new());
+    let decide = |question: &Question| match question {
+        Question::User { number, proof, signed, .. } => {
+            asked.borrow_mut().push((*number, matches!(proof, Proof::Key(_)), *signed));
+            Answer::Yes
+        }
+        Question::Signature { .. } => Answer::Signature(b"none of this key"),
+        Question::HostKey { .. } => Answer::Yes,
+    };
+    let server = || ServerParts::asking(draws(5), HostKey::Here(HOST));
+    let client = |proof| ClientParts::asking(draws(1), "al", vec![proof, password()]);
+    assert_authenticated(&meet_deciding(client(Proof::Key(USER.to_vec())), server(), 1000, decide));
+    assert_eq!(asked.take(), [(1, true, false), (2, true, true)]);
+    // nobody is asked about the request with a wrong signature, which is the second one
+    let signed = PublicKey { algorithm: "ssh-ed25519".into(), blob: public_key(&USER).unwrap() };
+    assert_authenticated(&meet_deciding(client(Proof::Signed(signed)), server(), 1000, decide));
+    assert_eq!(asked.take(), [(1, true, false), (3, false, false)]);
 }
 
 /// A client that asks about the host key, and what it sends then.

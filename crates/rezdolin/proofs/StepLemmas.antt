@@ -71,8 +71,8 @@ by_setup p a d question x = ap (λ (o : DecisionsData). decided o question) (sym
 taken_same : (question : QuestionData) (a : AnswerData) → is_of_kind a question ≡ true → taken question a ≡ a
 taken_same (HostKeyQuestion algorithm blob) (Decided allowed) kind = refl
 taken_same (HostKeyQuestion algorithm blob) (Signed found) kind = cc
-taken_same (UserQuestion number user service proof) (Decided allowed) kind = refl
-taken_same (UserQuestion number user service proof) (Signed found) kind = cc
+taken_same (UserQuestion number user service proof signed) (Decided allowed) kind = refl
+taken_same (UserQuestion number user service proof signed) (Signed found) kind = cc
 taken_same (SignatureQuestion number algorithm blob input) (Decided allowed) kind = cc
 taken_same (SignatureQuestion number algorithm blob input) (Signed found) kind = refl
 

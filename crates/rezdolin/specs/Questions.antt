@@ -1,6 +1,6 @@
 -- Questions, as bytes, and how an endpoint that asks stands.
 
-use Rattle.std.specs.Prelude.{ℕ, List, [], ◌∷◌, Option, None, Some}
+use Rattle.std.specs.Prelude.{ℕ, Bool, List, [], ◌∷◌, Option, None, Some}
 use Rattle.sshwire.specs.Types.{uint32}
 use Rattle.sshcore.specs.EndData.{EndData}
 use Rattle.sshcore.specs.EndpointParts.{KeyProof, NoProof, PasswordProof, ProofData}
@@ -9,7 +9,7 @@ use Rattle.rezdolin.specs.declared.answers.EndNumbers.{EndNumbers}
 use Rattle.rezdolin.specs.declared.answers.TheConstants.{ASKS_HOST_KEY, ASKS_SIGNATURE, ASKS_USER, END_ASKS}
 use Rattle.rezdolin.specs.declared.inputs.TheConstants.{METHOD_NONE, METHOD_PASSWORD, METHOD_PUBLICKEY}
 use Rattle.rezdolin.specs.Answers.{end_numbers, three}
-use Rattle.rezdolin.specs.Records.{strings}
+use Rattle.rezdolin.specs.Records.{flag, strings}
 
 -- the number of the method by which a request proves its user
 abbrev pub method_of : ProofData → ℕ
@@ -17,19 +17,20 @@ method_of NoProof = METHOD_NONE
 method_of (PasswordProof password) = METHOD_PASSWORD
 method_of (KeyProof algorithm key) = METHOD_PUBLICKEY
 
--- the last fields of a question about a user: the method by which the request proves its user, the algorithm and the key, and the password
-abbrev pub proof_fields : ProofData → List (List ℕ)
-proof_fields NoProof = uint32 (method_of NoProof) ∷ [] ∷ [] ∷ [] ∷ []
-proof_fields (PasswordProof password) = uint32 (method_of (PasswordProof password)) ∷ [] ∷ [] ∷ password ∷ []
-proof_fields (KeyProof algorithm key) = uint32 (method_of (KeyProof algorithm key)) ∷ algorithm ∷ key ∷ [] ∷ []
+-- The last fields of a question about a user: the method by which the request proves its user, the algorithm and the key, the password, and
+-- whether a key's signature has been verified.
+abbrev pub proof_fields : ProofData → Bool → List (List ℕ)
+proof_fields NoProof signed = uint32 (method_of NoProof) ∷ [] ∷ [] ∷ [] ∷ flag signed ∷ []
+proof_fields (PasswordProof password) signed = uint32 (method_of (PasswordProof password)) ∷ [] ∷ [] ∷ password ∷ flag signed ∷ []
+proof_fields (KeyProof algorithm key) signed = uint32 (method_of (KeyProof algorithm key)) ∷ algorithm ∷ key ∷ [] ∷ flag signed ∷ []
 
 -- The fields of a question, in order: its kind, the number of the request, user, service, the method by which the request proves its user,
--- algorithm, key, and the password or what is to be signed. A question about a host key or for a signature has no number, user, service and
--- method.
+-- algorithm, key, the password or what is to be signed, and whether a key's signature has been verified. A question about a host key or for
+-- a signature has no number, user, service and method, and doesn't tell the last.
 abbrev pub question_fields : QuestionData → List (List ℕ)
-question_fields (HostKeyQuestion algorithm key) = (ASKS_HOST_KEY ∷ []) ∷ [] ∷ [] ∷ [] ∷ [] ∷ algorithm ∷ key ∷ [] ∷ []
-question_fields (UserQuestion number user service proof) = (ASKS_USER ∷ []) ∷ uint32 number ∷ user ∷ service ∷ proof_fields proof
-question_fields (SignatureQuestion number algorithm key input) = (ASKS_SIGNATURE ∷ []) ∷ [] ∷ [] ∷ [] ∷ [] ∷ algorithm ∷ key ∷ input ∷ []
+question_fields (HostKeyQuestion algorithm key) = (ASKS_HOST_KEY ∷ []) ∷ [] ∷ [] ∷ [] ∷ [] ∷ algorithm ∷ key ∷ [] ∷ [] ∷ []
+question_fields (UserQuestion number user service proof signed) = (ASKS_USER ∷ []) ∷ uint32 number ∷ user ∷ service ∷ proof_fields proof signed
+question_fields (SignatureQuestion number algorithm key input) = (ASKS_SIGNATURE ∷ []) ∷ [] ∷ [] ∷ [] ∷ [] ∷ algorithm ∷ key ∷ input ∷ [] ∷ []
 
 -- a question as bytes: its fields, each as a string
 abbrev pub question_bytes : QuestionData → List ℕ

@@ -76,7 +76,8 @@ pub const END_ASKS: u32 = 5;
 /// A question of a client: whether the host key is trusted.
 pub const ASKS_HOST_KEY: u32 = 0;
 
-/// A question of a server: whether a request is successful, or whether the key of a query would do.
+/// A question of a server: whether what a request claims is accepted, after its signature has been verified if it has one, or whether
+/// the key of a query would do.
 pub const ASKS_USER: u32 = 1;
 
 /// A question for a signature by a key that the library doesn't hold.

@@ -6,11 +6,11 @@ ghost use Rattle.sshcore.specs.Questions.{HostKeyQuestion, SignatureQuestion, Us
 ghost use Rattle.sshcore.specs.QuestionsView.{question_data};
 ghost use Rattle.sshwire.specs.Types.{uint32};
 ghost use Rattle.rezdolin.specs.Questions.{method_of, proof_fields, question_bytes};
-ghost use Rattle.rezdolin.specs.Records.{strings};
+ghost use Rattle.rezdolin.specs.Records.{flag, strings};
 
 use crate::answers::{ASKS_HOST_KEY, ASKS_SIGNATURE, ASKS_USER};
 use crate::inputs::{METHOD_NONE, METHOD_PASSWORD, METHOD_PUBLICKEY};
-use crate::record::{put_field, put_fields};
+use crate::record::put_fields;
 use sshcore::{Proof, Question};
 use sshwire::{Memory, put_u32};
 use std::alloc::Global;
@@ -26,7 +26,8 @@ pub(crate) fn question_record(alloc: Global, question: &Question<'_>) -> Result<
             user,
             service,
             proof,
-        } => user_record(alloc, *number, user, service, proof),
+            signed,
+        } => user_record(alloc, *number, user, service, proof, *signed),
         Question::Signature {
             algorithm,
             blob,
@@ -42,7 +43,17 @@ fn host_key_record(alloc: Global, algorithm: &str, blob: &[u8]) -> Result<Vec<u8
 {
     let mut out = Vec::new(alloc);
     let kind = [ASKS_HOST_KEY as u8];
-    let fields: [&[u8]; 8] = [&kind, &[], &[], &[], &[], algorithm.as_bytes(), blob, &[]];
+    let fields: [&[u8]; 9] = [
+        &kind,
+        &[],
+        &[],
+        &[],
+        &[],
+        algorithm.as_bytes(),
+        blob,
+        &[],
+        &[],
+    ];
     put_fields(&fields, &mut out)?;
     Ok(out)
 }
@@ -54,8 +65,9 @@ fn user_record(
     user: &str,
     service: &str,
     proof: &Proof<'_>,
+    signed: bool,
 ) -> Result<Vec<u8>, Memory>
-    ensures { IfOk result (λ v. v.items ≡ question_bytes (UserQuestion number user.now service.now (proof_data proof.now))) }
+    ensures { IfOk result (λ v. v.items ≡ question_bytes (UserQuestion number user.now service.now (proof_data proof.now) signed)) }
 {
     let mut out = Vec::new(alloc);
     let mut digits = Vec::new(alloc);
@@ -63,7 +75,7 @@ fn user_record(
     let kind = [ASKS_USER as u8];
     let fields: [&[u8]; 4] = [&kind, &digits, user.as_bytes(), service.as_bytes()];
     put_fields(&fields, &mut out)?;
-    put_proof(alloc, proof, &mut out)?;
+    put_proof(alloc, proof, signed, &mut out)?;
     Ok(out)
 }
 
@@ -81,22 +93,35 @@ fn signature_record(
     let kind = [ASKS_SIGNATURE as u8];
     let fields: [&[u8]; 7] = [&kind, &[], &[], &[], &[], algorithm.as_bytes(), blob];
     put_fields(&fields, &mut out)?;
-    put_field(input, &mut out)?;
+    put_fields(&[input, &[]], &mut out)?;
     Ok(out)
 }
 
-/// Appends the fields of what a request proves.
-fn put_proof(alloc: Global, proof: &Proof<'_>, out: &mut Vec<u8>) -> Result<(), Memory>
-    ensures { OnOk result (out.new.items ≡ out.old.items ++ strings (proof_fields (proof_data proof.now))) }
+/// Appends the fields of what a request proves, and whether a key's signature has been verified.
+fn put_proof(
+    alloc: Global,
+    proof: &Proof<'_>,
+    signed: bool,
+    out: &mut Vec<u8>,
+) -> Result<(), Memory>
+    ensures { OnOk result (out.new.items ≡ out.old.items ++ strings (proof_fields (proof_data proof.now) signed)) }
 {
     let method = method_bytes(alloc, method_of(proof))?;
+    let verified = flag_of(signed);
     match proof {
-        Proof::None => put_fields(&[&method, &[], &[], &[]], out),
-        Proof::Password(password) => put_fields(&[&method, &[], &[], password], out),
+        Proof::None => put_fields(&[&method, &[], &[], &[], &verified], out),
+        Proof::Password(password) => put_fields(&[&method, &[], &[], password, &verified], out),
         Proof::Key { algorithm, blob } => {
-            put_fields(&[&method, algorithm.as_bytes(), blob, &[]], out)
+            put_fields(&[&method, algorithm.as_bytes(), blob, &[], &verified], out)
         }
     }
+}
+
+/// One byte, 1 where a key's signature has been verified, else 0.
+fn flag_of(signed: bool) -> [u8; 1]
+    ensures { result ≡ flag signed }
+{
+    if signed { [1] } else { [0] }
 }
 
 /// The number of a request's method.

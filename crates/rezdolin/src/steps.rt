@@ -392,6 +392,7 @@ fn is_allowed(trust: &Trust<'_>, question: &Question<'_>) -> bool
             user,
             service,
             proof,
+            ..
         } => trust.user(*number, user, service, proof),
         Question::Signature { .. } => false,
     }

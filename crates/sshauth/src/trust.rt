@@ -62,6 +62,7 @@ impl Trust {
                 user,
                 service,
                 proof,
+                ..
             } => self.user(*number, user, service, proof),
             Question::Signature { .. } => false,
         }

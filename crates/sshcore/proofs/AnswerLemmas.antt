@@ -11,7 +11,8 @@ use Rattle.sshcore.specs.Attempts.{agreed_by}
 use Rattle.sshcore.specs.EndData.{Authenticated, Reply, fails, goes}
 use Rattle.sshcore.specs.KnownBefore.{Known}
 use Rattle.sshcore.specs.EndpointParts.{ConfigData, DecisionsData}
-use Rattle.sshcore.specs.Requests.{completes, is_last_try, is_successful, method_reply, more_reply, request_reply, tried_reply, would_do}
+use Rattle.sshcore.specs.Requests.{completes, is_last_try, is_successful, more_reply, query_answer, tried_reply}
+use Rattle.sshcore.proofs.StepLemmas.{method_reply, request_reply, would_do}
 
 -- what tells that a request ends nothing: a FAILURE, or a PK_OK to a query whose key would do
 pub data IsRefusal (m : SuiteData) (d : DecisionsData) (config : ConfigData) (known : Known) (user service : List ℕ) (x : MessageData) : Type 0 where
@@ -34,7 +35,7 @@ module _ (m : SuiteData) (d : DecisionsData) (config : ConfigData) (known : Know
   by_more x is false e = More x is e refl
 
   by_query : (algorithm key : List ℕ) (would : Bool) → would_do m d config known user service algorithm key ≡ would
-      → IsAnswered m d config known user service method (more_reply config known (cond would (UserauthPkOk algorithm key) (UserauthFailure config.methods false)))
+      → IsAnswered m d config known user service method (more_reply config known (query_answer config algorithm key would))
   by_query algorithm key true e = by_more (UserauthPkOk algorithm key) (Confirmed algorithm key e refl) (is_last_try config known) refl
   by_query algorithm key false e = by_more (UserauthFailure config.methods false) (Refused false refl) (is_last_try config known) refl
 

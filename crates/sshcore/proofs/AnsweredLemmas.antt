@@ -1,11 +1,11 @@
 -- Of questions that are asked once some decisions give all answers.
 
-use Rattle.std.proofs.Common.{◌≡◌, ◌==◌, Bool, true, false, cond, List, [], ◌∷◌, ◌++◌, map, refl, ap, ◌∙◌, subst, arith}
+use Rattle.std.proofs.Common.{◌≡◌, ℕ, ◌==◌, Bool, true, false, cond, List, [], ◌∷◌, ◌++◌, map, refl, ap, ◌∙◌, subst, arith}
 use Rattle.std.specs.Prelude.{⊤}
 use Rattle.std.specs.List.{AllByRecursion}
 use Rattle.std.proofs.lemmas.Bool.{eq-eqb, ne_eqb}
 use Rattle.sshcore.specs.AskedQuestions.{AnsweredData, ComesLater, GiveAll, IsAskedOnce, IsTaken}
-use Rattle.sshcore.specs.EndpointParts.{DecisionsData}
+use Rattle.sshcore.specs.EndpointParts.{DecisionsData, ProofData}
 use Rattle.sshcore.specs.Questions.{AnswerData, Decided, HostKeyQuestion, QuestionData, SignatureQuestion, UserQuestion, decided, found_in, is_yes, taken}
 
 -- each comes later than those in front
@@ -44,25 +44,25 @@ asked_once (q ∷ later) r (b ∷ before) between after one other e = asked_once
 -- an answer to one of two questions is one to the other
 abbrev is_about : QuestionData → QuestionData → Bool
 is_about (HostKeyQuestion algorithm blob) (HostKeyQuestion other_algorithm other_blob) = true
-is_about (UserQuestion number user service proof) (UserQuestion other_number other_user other_service other_proof) = number == other_number
+is_about (UserQuestion number user service proof signed) (UserQuestion other_number other_user other_service other_proof other_signed) = number == other_number
 is_about (SignatureQuestion number algorithm blob input) (SignatureQuestion other_number other_algorithm other_blob other_input) = number == other_number
 is_about one other = false
 
 about_same : (q : QuestionData) → is_about q q ≡ true
 about_same (HostKeyQuestion algorithm blob) = refl
-about_same (UserQuestion number user service proof) = eq-eqb number number refl
+about_same (UserQuestion number user service proof signed) = eq-eqb number number refl
 about_same (SignatureQuestion number algorithm blob input) = eq-eqb number number refl
 
 about_later : (one other : QuestionData) → ComesLater one other → is_about other one ≡ false
 about_later (HostKeyQuestion algorithm blob) (HostKeyQuestion other_algorithm other_blob) none = absurd none
-about_later (HostKeyQuestion algorithm blob) (UserQuestion other_number other_user other_service other_proof) later = refl
+about_later (HostKeyQuestion algorithm blob) (UserQuestion other_number other_user other_service other_proof other_signed) later = refl
 about_later (HostKeyQuestion algorithm blob) (SignatureQuestion other_number other_algorithm other_blob other_input) later = refl
-about_later (UserQuestion number user service proof) (HostKeyQuestion other_algorithm other_blob) later = refl
-about_later (UserQuestion number user service proof) (UserQuestion other_number other_user other_service other_proof) later =
+about_later (UserQuestion number user service proof signed) (HostKeyQuestion other_algorithm other_blob) later = refl
+about_later (UserQuestion number user service proof signed) (UserQuestion other_number other_user other_service other_proof other_signed) later =
     ne_eqb other_number number (λ e. omega (arith, e, later))
-about_later (UserQuestion number user service proof) (SignatureQuestion other_number other_algorithm other_blob other_input) later = refl
+about_later (UserQuestion number user service proof signed) (SignatureQuestion other_number other_algorithm other_blob other_input) later = refl
 about_later (SignatureQuestion number algorithm blob input) (HostKeyQuestion other_algorithm other_blob) later = refl
-about_later (SignatureQuestion number algorithm blob input) (UserQuestion other_number other_user other_service other_proof) later = refl
+about_later (SignatureQuestion number algorithm blob input) (UserQuestion other_number other_user other_service other_proof other_signed) later = refl
 about_later (SignatureQuestion number algorithm blob input) (SignatureQuestion other_number other_algorithm other_blob other_input) later =
     ne_eqb other_number number (λ e. omega (arith, e, later))
 
@@ -74,13 +74,24 @@ answer_to (a ∷ later) q = cond (is_about q a.question) a.answer (answer_to lat
 abbrev by_answers : List AnsweredData → DecisionsData
 by_answers answers = record {
   host_key = λ algorithm blob. is_yes (answer_to answers (HostKeyQuestion algorithm blob));
-  user = λ number user service proof. is_yes (answer_to answers (UserQuestion number user service proof));
+  user = λ number user service proof. is_yes (answer_to answers (UserQuestion number user service proof false));
   signature = λ number algorithm blob input. found_in (answer_to answers (SignatureQuestion number algorithm blob input));
 }
 
+-- an answer to a question about a user depends on its number alone
+about_number : (number : ℕ) (user service : List ℕ) (proof : ProofData) (signed : Bool) (q : QuestionData) → is_about (UserQuestion number user service proof signed) q ≡ is_about (UserQuestion number user service proof false) q
+about_number number user service proof signed (HostKeyQuestion algorithm blob) = refl
+about_number number user service proof signed (UserQuestion other_number other_user other_service other_proof other_signed) = refl
+about_number number user service proof signed (SignatureQuestion other_number algorithm blob input) = refl
+
+answer_number : (answers : List AnsweredData) (number : ℕ) (user service : List ℕ) (proof : ProofData) (signed : Bool)
+    → answer_to answers (UserQuestion number user service proof false) ≡ answer_to answers (UserQuestion number user service proof signed)
+answer_number [] number user service proof signed = refl
+answer_number (a ∷ later) number user service proof signed = rw (about_number number user service proof signed a.question, answer_number later number user service proof signed) refl
+
 decided_so : (answers : List AnsweredData) (q : QuestionData) → decided (by_answers answers) q ≡ taken q (answer_to answers q)
 decided_so answers (HostKeyQuestion algorithm blob) = refl
-decided_so answers (UserQuestion number user service proof) = refl
+decided_so answers (UserQuestion number user service proof signed) = ap (λ (a : AnswerData). Decided (is_yes a)) (answer_number answers number user service proof signed)
 decided_so answers (SignatureQuestion number algorithm blob input) = refl
 
 abbrev pub questions_of : List AnsweredData → List QuestionData

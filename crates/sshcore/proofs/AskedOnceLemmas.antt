@@ -1,7 +1,7 @@
 -- What payloads ask, and that it is asked once.
 
 use Rattle.std.proofs.Common.{◌≡◌, ℕ, ◌+◌, ◌-◌, ◌<◌, ◌≤◌, ◌==◌, Bool, true, false, cond, List, [], ◌∷◌, ◌++◌, Option, None, Some, Result, Ok, refl, sym, ap, ◌∙◌, subst, append_assoc, arith}
-use Rattle.std.specs.Prelude.{◌&&◌, codes, length, nat_le}
+use Rattle.std.specs.Prelude.{length}
 use Rattle.std.specs.List.{AllByRecursion}
 use Rattle.std.specs.Str.{bytes_eq}
 use Rattle.std.proofs.lemmas.Bool.{and_parts, eq-eqb, true≢false}
@@ -10,13 +10,13 @@ use Rattle.sshwire.specs.declared.share_form.ShareForm.{ShareForm}
 use Rattle.sshwire.specs.declared.share_form.ShareForm.TheVariants.{Mpint}
 use Rattle.sshmsg.proofs.NumberLemmas.{reads_alike}
 use Rattle.sshmsg.specs.declared.fault.MsgFault.{MsgFault}
-use Rattle.sshmsg.specs.MessageData.{KexEcdhInit, KexEcdhReply, KexInitData, KexdhInit, KexdhReply, MessageData, MethodData, PublicKeyQuery, ServiceAccept, UserauthFailure, UserauthPkOk, UserauthRequest}
+use Rattle.sshmsg.specs.MessageData.{KexEcdhInit, KexEcdhReply, KexInitData, KexdhInit, KexdhReply, MessageData, MethodData, NoMethod, OtherMethod, Password, PasswordChange, PublicKey, PublicKeyQuery, ServiceAccept, UserauthFailure, UserauthPkOk, UserauthRequest, UserauthSuccess}
 use Rattle.sshmsg.specs.Messages.{message_in}
 use Rattle.sshmsg.specs.Numbers.{message_number, number_of}
 use Rattle.sshneg.specs.declared.side.Side.{Side}
 use Rattle.sshneg.specs.declared.side.Side.TheVariants.{Client, Server}
 use Rattle.sshneg.specs.ChoiceReadings.{is_in}
-use Rattle.sshpacket.specs.declared.limits.TheConstants.{BLOB_LIMIT}
+use Rattle.sshneg.specs.ExchangeEnd.{exchange_by}
 use Rattle.sshpacket.specs.Places.{EachPlace, flat_places}
 use Rattle.sshpacket.specs.Stream.{Units}
 use Rattle.sshpacket.specs.Suite.{SuiteData}
@@ -25,7 +25,8 @@ use Rattle.sshcore.specs.declared.phase_table.Disposition.{Disposition}
 use Rattle.sshcore.specs.declared.phase_table.Disposition.TheVariants as disposition
 use Rattle.sshcore.specs.declared.phase_table.Phase.TheVariants as phase
 use Rattle.sshcore.specs.AskedQuestions.{ComesLater, IsAskedOnce, asked, question_after, questions_at}
-use Rattle.sshcore.specs.Attempts.{answers_query, is_asked}
+use Rattle.sshcore.specs.declared.end.Fault.TheVariants as fault
+use Rattle.sshcore.specs.Attempts.{answers_query, attempt_step, is_asked, pk_ok_step}
 use Rattle.sshcore.specs.Before.{count_kept, expects_guess, kept, stood, strict_at}
 use Rattle.sshcore.specs.ConfigParts.{AttemptData, ByKey, ByNothing, ByPassword, CredentialData}
 use Rattle.sshcore.specs.EndpointParts.{ConfigData, DecisionsData, KeyProof, ProofData, Setup, setup_with}
@@ -33,15 +34,18 @@ use Rattle.sshcore.specs.Exchange.{answer_with, exchange_with, host_key_by}
 use Rattle.sshcore.specs.KnownBefore.{Known, known_at, left_at, waits_at}
 use Rattle.sshcore.specs.Phases.{leaving, phase_at, phase_by}
 use Rattle.sshcore.specs.Plan.{asks, confirmed, is_waiting, left_after_one, listed_by, listed_in, next_after, next_listed, unasked}
-use Rattle.sshcore.specs.Questions.{HostKeyQuestion, QuestionData, SignatureQuestion, UserQuestion, accept_question, attempt_question, claim_question, confirmed_question, disposition_question, init_question, message_question, method_question, query_question, question_at, request_question}
+use Rattle.sshcore.specs.QuestionAt.{disposition_question, message_question, question_at}
+use Rattle.sshcore.specs.Questions.{HostKeyQuestion, QuestionData, SignatureQuestion, UserQuestion, is_yes}
 use Rattle.sshcore.specs.CompletedMethods.{CompletedMethodsData}
 use Rattle.sshcore.specs.Replies.{disposition_at}
-use Rattle.sshcore.specs.Requests.{is_last_try}
+use Rattle.sshcore.specs.Requests.{claim_step, is_last_try, is_signed, may_do, method_step, query_reply, query_step, request_step}
 use Rattle.sshcore.specs.Standing.{Sits}
 use Rattle.sshcore.specs.StateData.{StateData}
 use Rattle.sshcore.specs.Table.{disposition_by}
-use Rattle.sshcore.specs.Tries.{claimed_proof, is_supported}
-use Rattle.sshcore.specs.Work.{userauth}
+use Rattle.sshcore.specs.Step.{AtOnce, Asks as AsksFirst, asked_in}
+use Rattle.sshcore.specs.Tries.{proof_in}
+use Rattle.sshcore.specs.EndData.{fails}
+use Rattle.sshcore.specs.Work.{accept_step, init_step, reply_step, step, userauth}
 use Rattle.sshcore.proofs.AnsweredLemmas.{Rises, asked_once}
 use Rattle.sshcore.proofs.PhaseLemmas.{kept_free, stood_push, tied_phase}
 use Rattle.sshcore.proofs.PlanLemmas.{count_push, is_answered, kept_kind, left_answered, left_more, left_stays, unanswered_from}
@@ -55,7 +59,7 @@ Numbered = (form : ShareForm) (payload : List ℕ) (c : MessageData) → message
 -- the question is on a request, and has this number
 abbrev IsNumbered : ℕ → QuestionData → Type 0
 IsNumbered n (HostKeyQuestion algorithm blob) = ⊥
-IsNumbered n (UserQuestion number user service proof) = number ≡ n
+IsNumbered n (UserQuestion number user service proof signed) = number ≡ n
 IsNumbered n (SignatureQuestion number algorithm blob input) = ⊥
 
 -- It is asked by a message of its number: a host key by 31, the next request by 50, the signature of an exchange by 30, and that of an
@@ -69,49 +73,51 @@ data IsAsked (known : Known) (payload : List ℕ) (q : QuestionData) : Type 0 wh
   ByConfirmation : message_number payload ≡ 60 → is_waiting known.left ≡ true → IsOfAttempt (confirmed known.left) q → IsAsked known payload q
 
 -- a request
-numbered : (number : ℕ) (user service : List ℕ) (proof : ProofData) (q : QuestionData) → Some (UserQuestion number user service proof) ≡ Some q → IsNumbered number q
-numbered number user service proof q e = let same : UserQuestion number user service proof ≡ q = cc in subst (IsNumbered number) same refl
+numbered : (number : ℕ) (user service : List ℕ) (proof : ProofData) (signed : Bool) (q : QuestionData) → Some (UserQuestion number user service proof signed) ≡ Some q → IsNumbered number q
+numbered number user service proof signed q e = let same : UserQuestion number user service proof signed ≡ q = cc in subst (IsNumbered number) same refl
 
-claim_asks : (number : ℕ) (user service : List ℕ) (proof : Option ProofData) (q : QuestionData) → claim_question number user service proof ≡ Some q → IsNumbered number q
-claim_asks number user service None q e = absurd cc
-claim_asks number user service (Some proof) q e = numbered number user service proof q e
+claim_asks : (config : ConfigData) (known : Known) (user service : List ℕ) (method : MethodData) (proof : Option ProofData) (q : QuestionData)
+    → asked_in (claim_step config known user service method proof) ≡ Some q → IsNumbered known.request q
+claim_asks config known user service method None q e = absurd cc
+claim_asks config known user service method (Some proof) q e = numbered known.request user service proof (is_signed method) q e
 
 module _ (m : SuiteData) (role : Side) (config : ConfigData) where
-  query_asks : (known : Known) (user service algorithm key : List ℕ) (q : QuestionData) → query_question m config known user service algorithm key ≡ Some q → IsNumbered known.request q
+  query_asks : (known : Known) (user service algorithm key : List ℕ) (q : QuestionData) → asked_in (query_step m config known user service algorithm key) ≡ Some q → IsNumbered known.request q
   query_asks known user service algorithm key q e = by_last (is_last_try config known) e
     where
-      by_key : (b : Bool) → cond b (Some (UserQuestion known.request user service (KeyProof algorithm key))) None ≡ Some q → IsNumbered known.request q
-      by_key true is = numbered known.request user service (KeyProof algorithm key) q is
+      by_key : (b : Bool) → asked_in (cond b (AsksFirst (UserQuestion known.request user service (KeyProof algorithm key) false) (λ answer. query_reply config algorithm key (is_yes answer))) (AtOnce (query_reply config algorithm key false))) ≡ Some q
+          → IsNumbered known.request q
+      by_key true is = numbered known.request user service (KeyProof algorithm key) false q is
       by_key false is = absurd cc
 
-      by_last : (b : Bool) → cond b None (cond (is_in config.methods (codes "publickey") && (is_supported m algorithm && nat_le (length key) BLOB_LIMIT))
-          (Some (UserQuestion known.request user service (KeyProof algorithm key))) None) ≡ Some q → IsNumbered known.request q
+      by_last : (b : Bool) → asked_in (cond b (AtOnce (fails fault.TooManyTries)) (cond (may_do m config algorithm key)
+          (AsksFirst (UserQuestion known.request user service (KeyProof algorithm key) false) (λ answer. query_reply config algorithm key (is_yes answer))) (AtOnce (query_reply config algorithm key false)))) ≡ Some q → IsNumbered known.request q
       by_last true is = absurd cc
-      by_last false is = by_key (is_in config.methods (codes "publickey") && (is_supported m algorithm && nat_le (length key) BLOB_LIMIT)) is
+      by_last false is = by_key (may_do m config algorithm key) is
 
-  method_asks : (known : Known) (user service : List ℕ) (method : MethodData) (q : QuestionData) → method_question m config known user service method ≡ Some q → IsNumbered known.request q
+  method_asks : (known : Known) (user service : List ℕ) (method : MethodData) (q : QuestionData) → asked_in (method_step m config known user service method) ≡ Some q → IsNumbered known.request q
   method_asks known user service (PublicKeyQuery algorithm key) q e = query_asks known user service algorithm key q e
-  method_asks known user service method q e = claim_asks known.request user service (claimed_proof m config method) q e
+  method_asks known user service method q e = claim_asks config known user service method (proof_in m config known.session user service method) q e
 
-  request_asks : (known : Known) (user service : List ℕ) (method : MethodData) (q : QuestionData) → request_question m config known user service method ≡ Some q → IsNumbered known.request q
-  unfolding request_question
+  request_asks : (known : Known) (user service : List ℕ) (method : MethodData) (q : QuestionData) → asked_in (request_step m config known user service method) ≡ Some q → IsNumbered known.request q
+  unfolding request_step
   request_asks known user service method q e = by (is_in config.services service) e
     where
-      by : (b : Bool) → cond b (method_question m config known user service method) None ≡ Some q → IsNumbered known.request q
+      by : (b : Bool) → asked_in (cond b (method_step m config known user service method) (AtOnce (fails fault.Service))) ≡ Some q → IsNumbered known.request q
       by true is = method_asks known user service method q is
       by false is = absurd cc
 
   -- a share
-  share_asks : (known : Known) (c : MessageData) (q : QuestionData) → init_question m role config known c ≡ Some q → IsOfExchange q
-  unfolding init_question
+  share_asks : (known : Known) (c : MessageData) (q : QuestionData) → asked_in (init_step m role config known c) ≡ Some q → IsOfExchange q
+  unfolding init_step
   share_asks known c q e =
       exchange_asks m config known (exchange_with m role config known.algorithms known.version known.kexinit (Ok c)) (answer_with m role config known.algorithms (Ok c)) q e
 
   -- where the service is accepted, and where the query was about the key
-  accepted_asks : (known : Known) (service : List ℕ) (q : QuestionData) → accept_question m known service ≡ Some q → IsOfAttempt known.left q
+  accepted_asks : (known : Known) (service : List ℕ) (q : QuestionData) → asked_in (accept_step m known service) ≡ Some q → IsOfAttempt known.left q
   accepted_asks known service q e = by (bytes_eq service userauth) e
     where
-      by : (b : Bool) → cond b (attempt_question m known.session known.left) None ≡ Some q → IsOfAttempt known.left q
+      by : (b : Bool) → asked_in (cond b (attempt_step m known.session known.left) (AtOnce (fails (fault.Unexpected 6)))) ≡ Some q → IsOfAttempt known.left q
       by true is = attempt_asks m known.session known.left q is
       by false is = absurd cc
 
@@ -124,11 +130,11 @@ module _ (m : SuiteData) (role : Side) (config : ConfigData) where
       by (ByPassword password) is = absurd cc
       by (ByKey own secret ask) is = (and_parts _ _ is).0
 
-  confirmed_asks : (known : Known) (algorithm key : List ℕ) (q : QuestionData) → confirmed_question m known algorithm key ≡ Some q
+  confirmed_asks : (known : Known) (algorithm key : List ℕ) (q : QuestionData) → asked_in (pk_ok_step m known algorithm key) ≡ Some q
       → (is_waiting known.left ≡ true) × IsOfAttempt (confirmed known.left) q
   confirmed_asks known algorithm key q e = by (answers_query m algorithm key known.left) refl e
     where
-      by : (b : Bool) → answers_query m algorithm key known.left ≡ b → cond b (attempt_question m known.session (confirmed known.left)) None ≡ Some q
+      by : (b : Bool) → answers_query m algorithm key known.left ≡ b → asked_in (cond b (attempt_step m known.session (confirmed known.left)) (AtOnce (fails (fault.Unexpected 60)))) ≡ Some q
           → (is_waiting known.left ≡ true) × IsOfAttempt (confirmed known.left) q
       by true on is = (asked_waits algorithm key known.left on, attempt_asks m known.session (confirmed known.left) q is)
       by false on is = absurd cc
@@ -140,12 +146,13 @@ module _ (m : SuiteData) (role : Side) (config : ConfigData) where
     lists listed partial e is = ap listed_by (reads_alike Mpint known.shares payload (λ q. omega (arith, q, is)) (λ q. omega (arith, q, is)) ∙ e)
 
     failure_asks : (listed : List (List ℕ)) (partial : Bool) (q : QuestionData) → message_in known.shares payload ≡ Ok (UserauthFailure listed partial)
-        → attempt_question m known.session (next_after listed known.left) ≡ Some q → IsAsked known payload q
+        → asked_in (attempt_step m known.session (next_after listed known.left)) ≡ Some q → IsAsked known payload q
     failure_asks listed partial q e is =
         let number : message_number payload ≡ 51 = numbers known.shares payload (UserauthFailure listed partial) e in
         ByFailure number (subst (λ (l : List (List ℕ)). IsOfAttempt (next_after l known.left) q) (sym (lists listed partial e number)) (attempt_asks m known.session (next_after listed known.left) q is))
 
     message_asks : (r : Result MessageData MsgFault) (q : QuestionData) → message_in known.shares payload ≡ r → message_question m role config known r ≡ Some q → IsAsked known payload q
+    unfolding step reply_step exchange_with exchange_by
     message_asks (Ok (KexdhReply key f signature)) q e is =
         ByReply (numbers known.shares payload (KexdhReply key f signature) e) known.algorithms.host_key (host_key_by m role config known.algorithms.host_key (Ok (KexdhReply key f signature))) cc
     message_asks (Ok (KexEcdhReply key share signature)) q e is =
@@ -271,7 +278,7 @@ MaySign Client config before number = number < still_asked (stood Client config.
 -- after these payloads it may be asked: a host key before the exchange, and a request that has a greater number than those that stood
 abbrev MayAsk : Side → ConfigData → Units → QuestionData → Type 0
 MayAsk role config before (HostKeyQuestion algorithm blob) = stood role config.offer (leaving role phase.Exchange) before ≡ false
-MayAsk role config before (UserQuestion number user service proof) = count_kept role config.offer 50 before < number
+MayAsk role config before (UserQuestion number user service proof signed) = count_kept role config.offer 50 before < number
 MayAsk role config before (SignatureQuestion number algorithm blob input) = MaySign role config before number
 
 module _ (role : Side) (own : KexInitData) (before : Units) (payload : List ℕ) where
@@ -325,7 +332,7 @@ module _ (config : ConfigData) (before : Units) (payload : List ℕ) where
   -- what may be asked after one more might before it
   may_before : (role : Side) (q : QuestionData) → MayAsk role config (before ++ payload ∷ []) q → MayAsk role config before q
   may_before role (HostKeyQuestion algorithm blob) may = off_before role config.offer before payload may
-  may_before role (UserQuestion number user service proof) may = omega (arith, count_less role config.offer before payload, may)
+  may_before role (UserQuestion number user service proof signed) may = omega (arith, count_less role config.offer before payload, may)
   may_before role (SignatureQuestion number algorithm blob input) may = signs_before role number may
 
 -- a signature at a server, and at a client
@@ -373,7 +380,7 @@ module _ (numbers : Numbered) (setup : Setup) (version : List ℕ) where
 
         later : (r : QuestionData) → MayAsk setup.role setup.config (before ++ payload ∷ []) r → ComesLater (HostKeyQuestion algorithm blob) r
         later (HostKeyQuestion other_algorithm other_blob) may = true≢false (sym on ∙ may)
-        later (UserQuestion number user service proof) may = tt
+        later (UserQuestion number user service proof signed) may = tt
         later (SignatureQuestion number other_algorithm other_blob input) may = tt
 
     init_asks : (q : QuestionData) → IsOfExchange q → IsAt setup.role Server (phase_at setup.role setup.config.offer before) phase.Exchange (expects_guess setup.role setup.config.offer before) → message_number payload ≡ 30
@@ -385,7 +392,7 @@ module _ (numbers : Numbered) (setup : Setup) (version : List ℕ) where
 
         later : (r : QuestionData) → MayAsk setup.role setup.config (before ++ payload ∷ []) r → ComesLater (SignatureQuestion 0 x.algorithm x.blob x.input) r
         later (HostKeyQuestion other_algorithm other_blob) may = tt
-        later (UserQuestion number user service proof) may = tt
+        later (UserQuestion number user service proof signed) may = tt
         later (SignatureQuestion number other_algorithm other_blob input) may =
             absurd (true≢false (sym on ∙ server_signed setup.config (before ++ payload ∷ []) number setup.role a.side_is may))
 
@@ -400,7 +407,7 @@ module _ (numbers : Numbered) (setup : Setup) (version : List ℕ) where
 
         later : (r : QuestionData) → MayAsk setup.role setup.config (before ++ payload ∷ []) r → ComesLater (SignatureQuestion p.number p.algorithm p.blob p.input) r
         later (HostKeyQuestion other_algorithm other_blob) may = tt
-        later (UserQuestion number user service proof) may = tt
+        later (UserQuestion number user service proof signed) may = tt
         later (SignatureQuestion number other_algorithm other_blob input) may =
             let lower = client_signed setup.config (before ++ payload ∷ []) number setup.role side may in
             let counts : p.number + 1 ≡ length left = p.counts in
@@ -437,16 +444,16 @@ module _ (numbers : Numbered) (setup : Setup) (version : List ℕ) where
         attempt_made (confirmed (left_at setup.role setup.config before)) q a.side_is p (left_more setup.role setup.config before payload a.none_due ∙ rw is refl)
         (stood_still setup.role setup.config.offer before payload (leaving setup.role phase.Service) on) (omega (arith, bound, same, counts))
 
-    user_asks : (number : ℕ) (user service : List ℕ) (proof : ProofData) → expects_guess setup.role setup.config.offer before ≡ false → message_number payload ≡ 50
-        → number ≡ count_kept setup.role setup.config.offer 50 before + 1 → Asks (UserQuestion number user service proof)
-    user_asks number user service proof none is same = (omega (arith, same), later)
+    user_asks : (number : ℕ) (user service : List ℕ) (proof : ProofData) (signed : Bool) → expects_guess setup.role setup.config.offer before ≡ false → message_number payload ≡ 50
+        → number ≡ count_kept setup.role setup.config.offer 50 before + 1 → Asks (UserQuestion number user service proof signed)
+    user_asks number user service proof signed none is same = (omega (arith, same), later)
       where
         more : count_kept setup.role setup.config.offer 50 (before ++ payload ∷ []) ≡ count_kept setup.role setup.config.offer 50 before + 1
         more = count_push setup.role setup.config.offer before payload 50 ∙ rw (kept_free setup.role setup.config.offer before payload 50 none ∙ eq-eqb (message_number payload) 50 is) refl
 
-        later : (r : QuestionData) → MayAsk setup.role setup.config (before ++ payload ∷ []) r → ComesLater (UserQuestion number user service proof) r
+        later : (r : QuestionData) → MayAsk setup.role setup.config (before ++ payload ∷ []) r → ComesLater (UserQuestion number user service proof signed) r
         later (HostKeyQuestion algorithm blob) may = tt
-        later (UserQuestion other_number other_user other_service other_proof) may = omega (arith, same, more, may)
+        later (UserQuestion other_number other_user other_service other_proof other_signed) may = omega (arith, same, more, may)
         later (SignatureQuestion other_number algorithm blob input) may = tt
 
     place_asks : (q : QuestionData) → question_after setup version before payload ≡ Some q → Asks q
@@ -462,8 +469,8 @@ module _ (numbers : Numbered) (setup : Setup) (version : List ℕ) where
         by_message q (ByReply is algorithm blob same) =
             subst Asks (sym same) (host_asks algorithm blob (reply_read setup.role _ _ (has_number 31 is)) is)
         by_message (HostKeyQuestion algorithm blob) (ByRequest is number) = absurd number
-        by_message (UserQuestion number user service proof) (ByRequest is same) =
-            user_asks number user service proof (user_request_read setup.role _ _ (has_number 50 is)).none_due is same
+        by_message (UserQuestion number user service proof signed) (ByRequest is same) =
+            user_asks number user service proof signed (user_request_read setup.role _ _ (has_number 50 is)).none_due is same
         by_message (SignatureQuestion number algorithm blob input) (ByRequest is same) = absurd same
         by_message q (ByInit is x) = init_asks q x (init_read setup.role _ _ (has_number 30 is)) is
         by_message q (ByAccept is p) = accept_asks q p (accept_read setup.role _ _ (has_number 6 is)) is
@@ -535,14 +542,35 @@ module _ (setup : Setup) (version : List ℕ) where
 
 -- what is asked doesn't depend on the methods that are completed, so on no decision
 module _ (m : SuiteData) (role : Side) (config : ConfigData) where
+  any_completed_claim : (known : Known) (r : CompletedMethodsData) (user service : List ℕ) (method : MethodData) (o : Option ProofData)
+      → asked_in (claim_step config (record known { completed = r }) user service method o) ≡ asked_in (claim_step config known user service method o)
+  any_completed_claim known r user service method None = refl
+  any_completed_claim known r user service method (Some proof) = refl
+
   any_completed_method : (known : Known) (r : CompletedMethodsData) (user service : List ℕ) (method : MethodData)
-      → method_question m config (record known { completed = r }) user service method ≡ method_question m config known user service method
+      → asked_in (method_step m config (record known { completed = r }) user service method) ≡ asked_in (method_step m config known user service method)
   any_completed_method known r user service (PublicKeyQuery algorithm key) = refl
-  any_completed_method known r user service _ = refl
+  any_completed_method known r user service NoMethod = any_completed_claim known r user service NoMethod (proof_in m config known.session user service NoMethod)
+  any_completed_method known r user service (Password password) = any_completed_claim known r user service (Password password) (proof_in m config known.session user service (Password password))
+  any_completed_method known r user service (PasswordChange old new) = any_completed_claim known r user service (PasswordChange old new) (proof_in m config known.session user service (PasswordChange old new))
+  any_completed_method known r user service (PublicKey algorithm key signature) =
+      any_completed_claim known r user service (PublicKey algorithm key signature) (proof_in m config known.session user service (PublicKey algorithm key signature))
+  any_completed_method known r user service (OtherMethod name fields) = any_completed_claim known r user service (OtherMethod name fields) (proof_in m config known.session user service (OtherMethod name fields))
+
+  any_completed_request : (known : Known) (r : CompletedMethodsData) (user service : List ℕ) (method : MethodData)
+      → asked_in (request_step m config (record known { completed = r }) user service method) ≡ asked_in (request_step m config known user service method)
+  unfolding request_step
+  any_completed_request known r user service method = by (is_in config.services service) (any_completed_method known r user service method)
+    where
+      by : (b : Bool) → asked_in (method_step m config (record known { completed = r }) user service method) ≡ asked_in (method_step m config known user service method)
+          → asked_in (cond b (method_step m config (record known { completed = r }) user service method) (AtOnce (fails fault.Service))) ≡ asked_in (cond b (method_step m config known user service method) (AtOnce (fails fault.Service)))
+      by true e = e
+      by false e = refl
 
   any_completed_message : (known : Known) (r : CompletedMethodsData) (x : Result MessageData MsgFault) → message_question m role config (record known { completed = r }) x ≡ message_question m role config known x
-  unfolding request_question init_question
-  any_completed_message known r (Ok (UserauthRequest user service method)) = rw (any_completed_method known r user service method) refl
+  unfolding step init_step reply_step
+  any_completed_message known r (Ok (UserauthRequest user service method)) = any_completed_request known r user service method
+  any_completed_message known r (Ok UserauthSuccess) = refl
   any_completed_message known r _ = refl
 
   any_completed : (known : Known) (r : CompletedMethodsData) (l : Disposition) (payload : List ℕ) → disposition_question m role config (record known { completed = r }) l payload ≡ disposition_question m role config known l payload

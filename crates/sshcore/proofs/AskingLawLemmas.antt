@@ -24,7 +24,8 @@ use Rattle.sshcore.specs.EndpointParts.{ConfigData, DecisionsData, Setup, setup_
 use Rattle.sshcore.specs.Endpoints.{EndpointAfter, IsSameEndpoint, endpoint_end}
 use Rattle.sshcore.specs.History.{History}
 use Rattle.sshcore.specs.Inputs.{EndpointStands, IsInput, IsInside}
-use Rattle.sshcore.specs.Questions.{QuestionData, question_at}
+use Rattle.sshcore.specs.QuestionAt.{question_at}
+use Rattle.sshcore.specs.Questions.{QuestionData}
 use Rattle.sshcore.specs.Replies.{answers_at, refusal_reply}
 use Rattle.sshcore.specs.Standing.{Sits}
 use Rattle.sshcore.specs.StateData.{StateData, state_data}

@@ -1,7 +1,7 @@
 -- Calls of an asking endpoint, one after another.
 
 use Rattle.std.proofs.Common.{◌≡◌, inl, inr, ℕ, ◌+◌, ◌-◌, ◌≤◌, Bool, false, List, [], ◌∷◌, ◌++◌, length, take, drop, Option, None, Some, refl, sym, ap, subst, ◌∙◌, append_assoc, arith}
-use Rattle.std.specs.Prelude.{◌%◌, ◌^◌, is_some, true}
+use Rattle.std.specs.Prelude.{◌%◌, ◌^◌, IfSome, is_some, true}
 use Rattle.std.proofs.lemmas.Bool.{true≢false}
 use Rattle.std.proofs.lemmas.List.{append-nil, length-drop, length-take-le}
 use Rattle.std.proofs.Math.Seq.{take-add, take-append-add, take-length}
@@ -24,22 +24,21 @@ use Rattle.sshcore.specs.Exchanged.{HasForm}
 use Rattle.sshcore.specs.History.{BrokenOff}
 use Rattle.sshcore.specs.Inputs.{EndpointStands, Steps, turns_left}
 use Rattle.sshcore.specs.Output.{sent_from}
-use Rattle.sshcore.specs.Questions.{AnswerData, Decided, HostKeyQuestion, QuestionData, SignatureQuestion, Signed, UserQuestion, always, decided, decided_by, question_at, taken, taken_by}
+use Rattle.sshcore.specs.QuestionAt.{question_at}
+use Rattle.sshcore.specs.Questions.{AnswerData, HostKeyQuestion, QuestionData, SignatureQuestion, UserQuestion, decided, decided_by, found_in, is_yes, taken, taken_by}
 use Rattle.sshcore.specs.StateData.{StateData, keys_due, state_data}
-use Rattle.sshcore.specs.Unread.{AnswerSteps, AskingStands, AskingSteps, IsAskingEndpoint, IsTurned, IsUnread, ReadsPacket, Turns, reads_with}
+use Rattle.sshcore.specs.Unread.{AnswerSteps, AnsweredBy, AskingStands, AskingSteps, IsAsked, IsAskingEndpoint, IsTurned, IsUnread, ReadsPacket, Turns, reads_with}
 use Rattle.sshcore.proofs.LawsBelow.{Below}
 use Rattle.sshcore.proofs.FeedLemmas.{SentMore, sent_last, stands_left}
 use Rattle.sshcore.proofs.HistoryLemmas.{Streams, broken}
-use Rattle.sshcore.proofs.QuestionLemmas.{brings_alike}
 use Rattle.sshcore.proofs.ReadLemmas.{packets_unit, reader_with}
 
 -- what the reader answered is what the packet's own bytes read as
 module _ (m : SuiteData) (r p : PacketReader) (inc : IsIncremental (parse_packet (protection_at m (packet_reader_data r)))) where
   pub reads_packet : (piece : List ℕ) (used : ℕ) (w : WaitingData) → used ≤ length piece → ahead m (packet_reader_data r) piece ≡ whole w.payload (length (packet_reader_data r).held + used)
-      → w.packet ≡ (packet_reader_data r).seq
       → packet_reader_data p ≡ record (packet_reader_data r) { keys = next_keys m (packet_reader_data r).keys (length (packet_reader_data r).held + used); held = []; seq = ((packet_reader_data r).seq + 1) % 2 ^ 32 }
       → ReadsPacket m (input.Packets r) (input.Packets p) w (take used piece)
-  reads_packet piece used w low e number left = record {
+  reads_packet piece used w low e left = record {
     before = r;
     after = p;
     was = refl;
@@ -47,7 +46,6 @@ module _ (m : SuiteData) (r p : PacketReader) (inc : IsIncremental (parse_packet
     reads = sym (ap (parse_packet (protection_at m (packet_reader_data r))) (take-append-add (packet_reader_data r).held piece used))
         ∙ inc.whole_again ((packet_reader_data r).held ++ piece) w.payload (length (packet_reader_data r).held + used) e
         ∙ ap (λ (n : ℕ). whole w.payload (length (packet_reader_data r).held + n)) (sym (length-take-le used piece low));
-    number = number;
     left = left
         ∙ ap (λ (n : ℕ). record (packet_reader_data r) { keys = next_keys m (packet_reader_data r).keys (length (packet_reader_data r).held + n); held = []; seq = ((packet_reader_data r).seq + 1) % 2 ^ 32 })
         (sym (length-take-le used piece low));
@@ -80,62 +78,61 @@ module _ (setup : Setup) (kept : StateData) (i : Input) (h s : List ℕ) where
     broken = broken setup a.stands.units a.stands.sizes a.stands.rest a.stands.refusal a.stands.answers a.stands.received_end a.earlier s a.stands.history;
   }
 
--- the decisions that always answer so, and a packet that asks
-pub always_decides : (answer : AnswerData) (q : QuestionData) → decided (always answer) q ≡ taken q answer
-always_decides (Decided allowed) (HostKeyQuestion algorithm blob) = refl
-always_decides (Decided allowed) (UserQuestion number user service proof) = refl
-always_decides (Decided allowed) (SignatureQuestion number algorithm blob input) = refl
-always_decides (Signed found) (HostKeyQuestion algorithm blob) = refl
-always_decides (Signed found) (UserQuestion number user service proof) = refl
-always_decides (Signed found) (SignatureQuestion number algorithm blob input) = refl
+-- the answer that decisions give is of the question's kind
+pub decided_kind : (d : DecisionsData) (q : QuestionData) → taken q (decided d q) ≡ decided d q
+decided_kind d (HostKeyQuestion algorithm blob) = refl
+decided_kind d (UserQuestion number user service proof signed) = refl
+decided_kind d (SignatureQuestion number algorithm blob input) = refl
 
--- a packet that asks nothing is answered alike
-pub alike_unasked : (d : DecisionsData) (q : Option QuestionData) → q ≡ None → decided_by d q ≡ decided_by (always (Decided false)) q
-alike_unasked d q e = ap (decided_by d) e ∙ sym (ap (decided_by (always (Decided false))) e)
+-- decisions that answer a question so
+abbrev pub answered_with : QuestionData → AnswerData → DecisionsData
+answered_with q answer = record { host_key = λ algorithm blob. is_yes answer; user = λ number user service proof. is_yes answer; signature = λ number algorithm blob input. found_in answer }
 
-alike_asked : (d given : DecisionsData) (q : Option QuestionData) (is : QuestionData) → q ≡ Some is → decided d is ≡ decided given is → decided_by d q ≡ decided_by given q
-alike_asked d given q is e agrees = ap (decided_by d) e ∙ agrees ∙ sym (ap (decided_by given) e)
+pub answered_so : (q : QuestionData) (answer : AnswerData) → decided (answered_with q (taken q answer)) q ≡ taken q answer
+answered_so (HostKeyQuestion algorithm blob) answer = refl
+answered_so (UserQuestion number user service proof signed) answer = refl
+answered_so (SignatureQuestion number algorithm blob input) answer = refl
+
+-- decisions that say no to all, by which is told what depends on none
+pub no_decisions : DecisionsData
+no_decisions = record { host_key = λ algorithm blob. false; user = λ number user service proof. false; signature = λ number algorithm blob input. None }
 
 reads_as : (k : Option KeysData) (strict : Bool) (r : PacketReaderData) → reads_with k strict r ≡ reader_with k strict r
 reads_as None strict r = refl
 reads_as (Some keys) strict r = refl
 
--- A packet was answered, and holds for all decisions that answer alike what it asks.
-module _ (below : Below) (streams : Streams) (m : SuiteData) (role : Side) (config : ConfigData) (given : DecisionsData) (old new last : StateData) (before after : List ℕ) (is : old.end ≡ Open) where
+-- A packet was answered, by these decisions.
+module _ (below : Below) (streams : Streams) (m : SuiteData) (role : Side) (config : ConfigData) (old new last : StateData) (before after : List ℕ) (is : old.end ≡ Open) where
   pub unit_steps : (r p q : PacketReader) (piece payload : List ℕ) (used packet : ℕ) → used ≤ length piece
       → ahead m (packet_reader_data r) piece ≡ whole payload (length (packet_reader_data r).held + used) → packet ≡ (packet_reader_data r).seq
       → packet_reader_data p ≡ record (packet_reader_data r) { keys = next_keys m (packet_reader_data r).keys (length (packet_reader_data r).held + used); held = []; seq = ((packet_reader_data r).seq + 1) % 2 ^ 32 }
-      → (HasForm m old → Brings (setup_with m given role config) old new packet payload before after) → Turns new last p q
-      → (d : DecisionsData) → decided_by d (question_at m role config old payload) ≡ decided_by given (question_at m role config old payload)
+      → (d : DecisionsData) → (HasForm m old → Brings (setup_with m d role config) old new packet payload before after) → Turns new last p q
       → Steps (setup_with m d role config) (input.Packets r) old (input.Packets q) last (take used piece) before after
-  unit_steps r p q piece payload used packet low reads number left brings turns d alike =
+  unit_steps r p q piece payload used packet low reads number left d brings turns =
       packets_unit below streams (setup_with m d role config) r q old piece before after is p new last used packet payload low reads number left
-      (λ form. brings_alike m role config d given old new packet payload before after alike (brings form))
+      brings
       (ap (λ (k : StateData). k.end) turns.left) (ap (λ (k : StateData). k.phase) turns.left) (ap (λ (k : StateData). k.guess) turns.left) (ap (λ (k : StateData). k.known) turns.left)
       (ap (λ (k : StateData). k.sending) turns.left) (ap (λ (k : StateData). k.carried) turns.left)
       (turns.reads ∙ reads_as (keys_due new.phase new.carried.pending) new.known.strict (packet_reader_data p))
 
--- A packet that waited is answered by these decisions.
-module _ (below : Below) (streams : Streams) (m : SuiteData) (role : Side) (config : ConfigData) (given : DecisionsData) (w : WaitingData) (old new last : StateData) (before after : List ℕ) (is : old.end ≡ Open) where
-  answer_packets : (p q : PacketReader) → question_at m role config old w.payload ≡ Some w.question
-      → (HasForm m old → Brings (setup_with m given role config) old new w.packet w.payload before after)
-      → Turns new last p q → AnswerSteps m role config (decided given w.question) w (input.Packets p) old (input.Packets q) last before after
-  answer_packets p q asks brings turns d agrees i taken r =
+-- A packet that waited is answered so.
+module _ (below : Below) (streams : Streams) (m : SuiteData) (role : Side) (config : ConfigData) (answer : AnswerData) (w : WaitingData) (old new last : StateData) (before after : List ℕ) (is : old.end ≡ Open)
+    (brings : (d : DecisionsData) (packet : ℕ) → decided d w.question ≡ answer → HasForm m old → Brings (setup_with m d role config) old new packet w.payload before after) where
+  answer_packets : (p q : PacketReader) → Turns new last p q → AnswerSteps m role config answer w (input.Packets p) old (input.Packets q) last before after
+  answer_packets p q turns d agrees i taken r =
       let same : p ≡ r.after = cc in
       subst (λ (x : Input). Steps (setup_with m d role config) x old (input.Packets q) last taken before after) (sym r.was)
       (subst (λ (l : List ℕ). Steps (setup_with m d role config) (input.Packets r.before) old (input.Packets q) last l before after) (take-length taken)
-      (unit_steps below streams m role config given old new last before after is r.before p q taken w.payload (length taken) w.packet (omega arith) r.reads r.number
-      (ap (λ (x : PacketReader). packet_reader_data x) same ∙ r.left) brings turns d
-      (alike_asked d given (question_at m role config old w.payload) w.question asks agrees)))
+      (unit_steps below streams m role config old new last before after is r.before p q taken w.payload (length taken) (packet_reader_data r.before).seq (omega arith) r.reads refl
+      (ap (λ (x : PacketReader). packet_reader_data x) same ∙ r.left) d (brings d (packet_reader_data r.before).seq agrees) turns))
 
-  pub answer_steps : (j k : Input) → question_at m role config old w.payload ≡ Some w.question
-      → (HasForm m old → Brings (setup_with m given role config) old new w.packet w.payload before after)
-      → IsTurned new last j k → AnswerSteps m role config (decided given w.question) w j old k last before after
-  answer_steps (input.Packets p) (input.Packets q) asks brings turned = answer_packets p q asks brings turned
-  answer_steps (input.Packets p) (input.Lines q) asks brings turned = absurd turned
-  answer_steps (input.Lines p) k asks brings turned = absurd turned
+  pub answer_steps : (j k : Input) → IsTurned new last j k → AnswerSteps m role config answer w j old k last before after
+  answer_steps (input.Packets p) (input.Packets q) turned = answer_packets p q turned
+  answer_steps (input.Packets p) (input.Lines q) turned = absurd turned
+  answer_steps (input.Lines p) k turned = absurd turned
 
-  -- and what follows is packets
+-- and what follows is packets
+module _ (new last : StateData) where
   pub answered_turns : (j k : Input) (e : EndData) → IsTurned new last j k → turns_left e k ≤ turns_left Open j
   answered_turns (input.Packets p) (input.Packets q) e turned = few e
     where
@@ -155,6 +152,18 @@ pub answered_at_once : (m : SuiteData) (role : Side) (config : ConfigData) (d : 
 answered_at_once m role config d i j k old mid new w taken before between after stops answers =
     subst (λ (x : StateData). Steps (setup_with m d role config) i x k new taken before after) stops.same
     (subst (λ (l : List ℕ). Steps (setup_with m d role config) i mid k new taken l after) stops.nothing_sent (answers d refl i taken stops.reads))
+
+-- a step that stops where a packet asks goes on by what these decisions answer
+pub stepped_by : (m : SuiteData) (role : Side) (config : ConfigData) (d : DecisionsData) (i j k : Input) (old mid new : StateData) (w : Option WaitingData) (taken before between after : List ℕ)
+    → AskingSteps m role config i old j mid w taken before between → AnsweredBy m role config d w j mid k new between after
+    → Steps (setup_with m d role config) i old k new taken before after
+stepped_by m role config d i j k old mid new None taken before between after steps (a, b, e) = rw (a, b, e) (steps d)
+stepped_by m role config d i j k old mid new (Some w) taken before between after stops answers = answered_at_once m role config d i j k old mid new w taken before between after stops answers
+
+pub asked_then : (m : SuiteData) (role : Side) (config : ConfigData) (i j : Input) (old new : StateData) (w : Option WaitingData) (taken before after : List ℕ)
+    → AskingSteps m role config i old j new w taken before after → IfSome w (IsAsked m role config new j)
+asked_then m role config i j old new None taken before after steps = tt
+asked_then m role config i j old new (Some w) taken before after stops = stops.asked
 
 -- what an open endpoint asks is what the packet asks that waits
 pub asks_packet : (m : SuiteData) (role : Side) (config : ConfigData) (kept : StateData) (j : Input) (w : Option WaitingData) → IsAskingEndpoint m role config kept j w

@@ -1,20 +1,22 @@
 -- The attempts of a client's plan: which is made next, and that those that are left are accepted ones.
 
-use Rattle.std.proofs.Common.{◌≡◌, Bor, ℕ, suc, ◌+◌, ◌≤◌, Bool, true, false, cond, ltb, ◌-◌, ◌==◌, List, [], ◌∷◌, drop, take, length, map, Option, None, Some, inl, inr, refl, sym, ap, ◌∙◌, arith}
+use Rattle.std.proofs.Common.{◌≡◌, Bor, ℕ, zero, suc, subst, ◌+◌, ◌≤◌, Bool, true, false, cond, ltb, ◌-◌, ◌==◌, List, [], ◌∷◌, drop, take, length, map, Option, None, Some, inl, inr, refl, sym, ap, ◌∙◌, arith}
+use Rattle.std.specs.Prelude.{◌&&◌, ◌||◌}
 use Rattle.std.specs.List.{AllByRecursion, position_or_len, slice_get}
 use Rattle.std.specs.Option.{option_copied}
-use Rattle.std.proofs.lemmas.Bool.{cases_Bool, ltb-false}
+use Rattle.std.proofs.lemmas.Bool.{cases_Bool, ltb-false, ne_eqb}
 use Rattle.std.proofs.lemmas.List.{take_rest}
+use Rattle.sshmsg.specs.MessageData.{MethodData, UserauthRequest}
 use Rattle.sshmsg.specs.Numbers.{message_number}
 use Rattle.sshmsg.specs.Written.{written_message}
 use Rattle.sshneg.specs.ChoiceReadings.{is_in}
 use Rattle.sshpacket.specs.Suite.{SuiteData}
 use Rattle.sshcore.specs.declared.config_parts.Attempt as attempt_parts
-use Rattle.sshcore.specs.Attempts.{answers_query, is_asked, request_of, success_by}
+use Rattle.sshcore.specs.Attempts.{answers_query, is_asked, own_request, success_by}
 use Rattle.sshcore.specs.ConfigParts.{AttemptData, ByKey, ByNothing, ByPassword, CredentialData}
 use Rattle.sshcore.specs.ConfigRules.{IsAttempt}
 use Rattle.sshcore.specs.ConfigView.{attempt_data, credential_data}
-use Rattle.sshcore.specs.EndpointParts.{DecisionsData}
+use Rattle.sshcore.specs.MadePayloads.{IsMade}
 use Rattle.sshcore.specs.StateData.{left_of}
 use Rattle.sshcore.specs.KnownBefore.{Known}
 use Rattle.sshcore.specs.Plan.{after_query, confirmed, first_made, next_after, next_listed, proving_name, unasked}
@@ -118,9 +120,17 @@ pub split_some : (attempts : List attempt_parts.Attempt) (a : attempt_parts.Atte
 split_some attempts a later e = ap (map attempt_data) e
 
 -- a request is no NEWKEYS
-pub quiet_request : (m : SuiteData) (d : DecisionsData) (number : ℕ) (session : List ℕ) (a : AttemptData) → (message_number (request_of m d number session a) == 21) ≡ false
+pub quiet_request : (m : SuiteData) (session : List ℕ) (a : AttemptData) → (message_number (own_request m session a) == 21) ≡ false
 unfolding written_message
-quiet_request m d number session a = refl
+quiet_request m session a = refl
+
+pub quiet_user_request : (user service : List ℕ) (method : MethodData) → (message_number (written_message (UserauthRequest user service method)) == 21) ≡ false
+unfolding written_message
+quiet_user_request user service method = refl
+
+-- the first of two lists of attempts that are one
+pub same_first : (x a : AttemptData) (xs later : List AttemptData) → x ∷ xs ≡ a ∷ later → x ≡ a
+same_first x a xs later e = cc
 
 -- what is left, of which the first attempt may be confirmed
 pub left_none : (b : Bool) (attempts : List AttemptData) → attempts ≡ [] → left_of b attempts ≡ []
@@ -155,6 +165,45 @@ left_confirmed true (a ∷ later) = ap (λ (p : CredentialData). record a { prov
   twice ByNothing = refl
   twice (ByPassword password) = refl
   twice (ByKey name secret ask) = refl
+
+-- so it is after some are skipped
+pub moved_on : (c confirms : Bool) (skipped : ℕ) (attempts : List AttemptData)
+    → left_of (confirms || (c && (skipped == 0))) (drop skipped attempts) ≡ left_of confirms (drop skipped (left_of c attempts))
+moved_on false true skipped attempts = refl
+moved_on false false skipped attempts = refl
+moved_on true true zero attempts = left_confirmed true attempts
+moved_on true false zero attempts = refl
+moved_on true confirms (suc n) attempts = rw (ne_eqb (suc n) 0 (λ e. absurd cc)) (later confirms attempts)
+  where
+    later : (b : Bool) (l : List AttemptData) → left_of (b || false) (drop (suc n) l) ≡ left_of b (drop (suc n) (confirmed l))
+    later true [] = refl
+    later false [] = refl
+    later true (a ∷ rest) = refl
+    later false (a ∷ rest) = refl
+
+-- attempts after so many
+pub mapped_after : (attempts : List attempt_parts.Attempt) (n : ℕ) → map attempt_data (drop n attempts) ≡ drop n (map attempt_data attempts)
+mapped_after [] zero = refl
+mapped_after [] (suc n) = refl
+mapped_after (a ∷ later) zero = refl
+mapped_after (a ∷ later) (suc n) = mapped_after later n
+
+pub mapped_past : (attempts : List attempt_parts.Attempt) (n : ℕ) → length attempts ≤ n → ◌≡◌ {A = List AttemptData} [] (drop n (map attempt_data attempts))
+mapped_past [] zero far = refl
+mapped_past [] (suc n) far = refl
+mapped_past (a ∷ later) zero far = absurd (omega (arith, far))
+mapped_past (a ∷ later) (suc n) far = mapped_past later n (omega (arith, far))
+
+pub rest_accepted : (n : ℕ) (attempts left : List AttemptData) → AllByRecursion IsAttempt attempts → left ≡ drop n attempts → AllByRecursion IsAttempt left
+rest_accepted zero attempts left all is = subst (AllByRecursion IsAttempt) (sym is) all
+rest_accepted (suc n) [] left all is = rw is tt
+rest_accepted (suc n) (a ∷ later) left all is = rest_accepted n later left all.1 is
+
+-- whom an attempt is for doesn't depend on its query
+pub made_as : (b : Bool) (a : AttemptData) (method : MethodData) (made : List ℕ) → IsMade (written_message (UserauthRequest a.user a.service method)) made
+    → IsMade (written_message (UserauthRequest (first_made b a).user (first_made b a).service method)) made
+made_as true a method made is = is
+made_as false a method made is = is
 
 -- the attempt itself asks nothing
 pub unasked_off : (m : SuiteData) (a : AttemptData) (algorithm key : List ℕ) → is_asked m (after_query a).proving algorithm key ≡ false

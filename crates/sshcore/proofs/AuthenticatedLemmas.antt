@@ -25,7 +25,7 @@ use Rattle.sshcore.specs.declared.phase_table.Disposition.{Disposition}
 use Rattle.sshcore.specs.declared.phase_table.Disposition.TheVariants as disposition
 use Rattle.sshcore.specs.declared.phase_table.Phase.{Phase}
 use Rattle.sshcore.specs.declared.phase_table.Phase.TheVariants as phase
-use Rattle.sshcore.specs.Attempts.{agreed_by, answers_query, attempt_reply, pk_ok_reply, success_by}
+use Rattle.sshcore.specs.Attempts.{agreed_by, answers_query, success_by}
 use Rattle.sshcore.specs.Authenticated.{AcceptsUser, IsAcceptedUser, IsAuthenticated, WasAccepted}
 use Rattle.sshcore.specs.Before.{count_kept, expects_guess, kept, stood, strict_at, strict_towards}
 use Rattle.sshcore.specs.ConfigParts.{AttemptData}
@@ -39,12 +39,12 @@ use Rattle.sshcore.specs.Phases.{leaving, past_newkeys, phase_at}
 use Rattle.sshcore.specs.Plan.{confirmed, next_after}
 use Rattle.sshcore.specs.Replies.{Ends, disposition_reply, end_at, ended, goes_on, read_reply, refusal_reply}
 use Rattle.sshcore.specs.CompletedMethods.{CompletedMethodsData, Tried, are_completed, completed_after, completed_after_one, is_complete, none_completed}
-use Rattle.sshcore.specs.Requests.{completes, is_successful, request_reply}
+use Rattle.sshcore.specs.Requests.{completes, is_successful}
 use Rattle.sshcore.specs.Tries.{is_successful_at, session_known, tried_at, tried_in, tried_place, tried_with}
 use Rattle.sshcore.specs.Standing.{Tied}
 use Rattle.sshcore.specs.Table.{disposition_by}
-use Rattle.sshcore.specs.Signatures.{signature_by}
-use Rattle.sshcore.specs.Work.{answered_by, banner_by, chosen_reply, init_reply, kexinit_reply, reply_reply, signed_by, signed_reply, userauth, work}
+use Rattle.sshcore.specs.Work.{banner_by, chosen_reply, kexinit_reply, signed_by, signed_reply, userauth, work}
+use Rattle.sshcore.proofs.StepLemmas.{answered_by, attempt_reply, init_reply, pk_ok_reply, reply_reply, request_reply, signature_by, work_is, worked}
 use Rattle.sshcore.proofs.IgnoredLimitLemmas.{by_allowance}
 use Rattle.sshcore.proofs.AnswerLemmas.{Elsewhere, IsAnswered, Last, More, Succeeds, answered}
 use Rattle.sshcore.proofs.LawsBelow.{Below}
@@ -147,23 +147,26 @@ module _ (setup : Setup) where
       early_cond (answers_query setup.suite algorithm key known.left) (attempt_reply setup.suite setup.decisions known.session (confirmed known.left)) (fails (fault.Unexpected 60))
       (early_attempt known.session (confirmed known.left)) refl
 
-  pub work_ends : (known : Known) (c : MessageData) → WorkEnds setup.suite setup.decisions setup.config known c (work setup known c).end
-  unfolding work
-  work_ends known (Disconnect reason description language) = Early refl
-  work_ends known (KexInit peer) = Early (early_kexinit known peer)
-  work_ends known (KexdhInit e) = Early (early_init known (KexdhInit e))
-  work_ends known (KexEcdhInit share) = Early (early_init known (KexEcdhInit share))
-  work_ends known (KexdhReply key f signature) = Early (early_reply known (KexdhReply key f signature) signature)
-  work_ends known (KexEcdhReply key share signature) = Early (early_reply known (KexEcdhReply key share signature) signature)
-  work_ends known (ServiceRequest service) =
+  worked_ends : (known : Known) (c : MessageData) → WorkEnds setup.suite setup.decisions setup.config known c (worked setup known c).end
+  unfolding worked
+  worked_ends known (Disconnect reason description language) = Early refl
+  worked_ends known (KexInit peer) = Early (early_kexinit known peer)
+  worked_ends known (KexdhInit e) = Early (early_init known (KexdhInit e))
+  worked_ends known (KexEcdhInit share) = Early (early_init known (KexEcdhInit share))
+  worked_ends known (KexdhReply key f signature) = Early (early_reply known (KexdhReply key f signature) signature)
+  worked_ends known (KexEcdhReply key share signature) = Early (early_reply known (KexEcdhReply key share signature) signature)
+  worked_ends known (ServiceRequest service) =
       Early (early_cond (bytes_eq service userauth) (goes (written_message (ServiceAccept userauth) ∷ banner_by setup.config.banner)) (fails fault.Service) refl refl)
-  work_ends known (ServiceAccept service) =
+  worked_ends known (ServiceAccept service) =
       Early (early_cond (bytes_eq service userauth) (attempt_reply setup.suite setup.decisions known.session known.left) (fails (fault.Unexpected 6)) (early_attempt known.session known.left) refl)
-  work_ends known (UserauthRequest user service method) = request_ends known user service method
-  work_ends known (UserauthFailure listed partial) = Early (early_attempt known.session (next_after listed known.left))
-  work_ends known UserauthSuccess = success_ends known known.left refl
-  work_ends known (UserauthPkOk algorithm key) = Early (early_confirmed known algorithm key)
-  work_ends known _ = Early refl
+  worked_ends known (UserauthRequest user service method) = request_ends known user service method
+  worked_ends known (UserauthFailure listed partial) = Early (early_attempt known.session (next_after listed known.left))
+  worked_ends known UserauthSuccess = success_ends known known.left refl
+  worked_ends known (UserauthPkOk algorithm key) = Early (early_confirmed known algorithm key)
+  worked_ends known _ = Early refl
+
+  pub work_ends : (known : Known) (c : MessageData) → WorkEnds setup.suite setup.decisions setup.config known c (work setup known c).end
+  work_ends known c = subst (λ (x : Reply). WorkEnds setup.suite setup.decisions setup.config known c x.end) (sym (work_is setup known c)) (worked_ends known c)
 
 -- what is agreed has the user and the service that it was made with
 agrees_by : (known : Known) (user service : List ℕ) (a : AgreedData) → agreed_by known user service ≡ a → a ≡ agreed_by known a.user a.service

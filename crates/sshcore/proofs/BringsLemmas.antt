@@ -1,22 +1,23 @@
 -- What a packet brings by each line of the phase table.
 
-use Rattle.std.proofs.Common.{◌≡◌, ◌≢◌, inl, inr, ℕ, ◌==◌, Bool, true, false, List, [], ◌∷◌, refl, sym, ap, ◌∙◌}
+use Rattle.std.proofs.Common.{◌≡◌, ◌≢◌, inl, inr, ℕ, ◌==◌, Bool, true, false, List, [], ◌∷◌, Ok, refl, sym, ap, subst, ◌∙◌}
 use Rattle.std.specs.Prelude.{◌&&◌, ◌||◌, not}
 use Rattle.std.proofs.lemmas.Bool.{cases_Bool, true≢false}
-use Rattle.sshmsg.specs.MessageData.{Unimplemented}
+use Rattle.sshmsg.specs.MessageData.{MessageData, Unimplemented}
 use Rattle.sshmsg.specs.Messages.{message_in}
 use Rattle.sshmsg.specs.Numbers.{message_number}
 use Rattle.sshmsg.specs.Written.{written_message}
 use Rattle.sshneg.specs.declared.side.Side.{Side}
 use Rattle.sshpacket.specs.KeysData.{KeysData}
 use Rattle.sshcore.specs.declared.end.Fault.{Fault}
-use Rattle.sshcore.specs.declared.end.Fault.TheVariants as fault
 use Rattle.sshcore.specs.declared.phase_table.Disposition.{Disposition}
 use Rattle.sshcore.specs.declared.phase_table.Disposition.TheVariants as disposition
 use Rattle.sshcore.specs.declared.phase_table.Phase.{Phase}
 use Rattle.sshcore.specs.IgnoredLimit.{is_taken, overspends}
 use Rattle.sshcore.specs.Brings.{Brings, Drops, Gives, Stays, Works, received_counted, received_one}
-use Rattle.sshcore.specs.EndData.{Open, fails, goes}
+use Rattle.sshcore.specs.EndData.{Open, Reply, fails, goes}
+use Rattle.sshcore.specs.Judging.{ReadsMessage}
+use Rattle.sshcore.specs.Work.{work}
 use Rattle.sshcore.specs.StateData.{StateData}
 use Rattle.sshcore.specs.EndpointParts.{Setup}
 use Rattle.sshcore.specs.Plan.{is_waiting}
@@ -118,29 +119,16 @@ module _ (setup : Setup) (old new : StateData) (packet : ℕ) (payload before af
   fails_works : (f : Fault) → ((strict : Bool) (next : KeysData) → Gives setup.suite setup.config.seed strict next old new before after (fails f)) → Works setup old new payload before after (fails f)
   fails_works f gives = record { gives = gives _ _; moves = λ goes_on. absurd (failed_ends new.end f (gives false (record { cipher = []; mac = []; iv = []; enc = []; mac_key = [] })).ends goes_on) }
 
-  pub deviates_brings : (n : ℕ) → n ≡ message_number payload → disposition_by setup.role old.phase old.known.strict old.guess (is_waiting old.known.left) (message_number payload) ≡ disposition.Deviates
-      → ((strict : Bool) (next : KeysData) → Gives setup.suite setup.config.seed strict next old new before after (fails (fault.Strict n)))
+  -- so it does by a line that fails it, whatever is decided
+  pub judged_brings : (f : Fault) → disposition_reply setup old.known packet (disposition_by setup.role old.phase old.known.strict old.guess (is_waiting old.known.left) (message_number payload)) payload ≡ fails f
+      → ((strict : Bool) (next : KeysData) → Gives setup.suite setup.config.seed strict next old new before after (fails f))
       → Brings setup old new packet payload before after
-  unfolding disposition_reply
-  deviates_brings n same is gives = rw (is, ← same) (fails_works (fault.Strict n) gives)
+  judged_brings f is gives = subst (λ (r : Reply). Works setup old new payload before after r) (sym is) (fails_works f gives)
 
-  pub unexpected_brings : (n : ℕ) → n ≡ message_number payload → disposition_by setup.role old.phase old.known.strict old.guess (is_waiting old.known.left) (message_number payload) ≡ disposition.Unexpected
-      → ((strict : Bool) (next : KeysData) → Gives setup.suite setup.config.seed strict next old new before after (fails (fault.Unexpected n)))
-      → Brings setup old new packet payload before after
-  unfolding disposition_reply
-  unexpected_brings n same is gives = rw (is, ← same) (fails_works (fault.Unexpected n) gives)
-
-  -- more came that says nothing than is taken
-  pub overspends_brings : (l : Disposition) → disposition_by setup.role old.phase old.known.strict old.guess (is_waiting old.known.left) (message_number payload) ≡ l
-      → (is_taken l && overspends old.known.allowance payload) ≡ true
-      → ((strict : Bool) (next : KeysData) → Gives setup.suite setup.config.seed strict next old new before after (fails fault.TooMuchIgnored))
-      → Brings setup old new packet payload before after
-  unfolding disposition_reply
-  overspends_brings disposition.Reads is over gives = rw (is, over) (fails_works fault.TooMuchIgnored gives)
-  overspends_brings disposition.Unknown is over gives = rw (is, over) (fails_works fault.TooMuchIgnored gives)
-  overspends_brings disposition.Drops is over gives = absurd (true≢false (sym over))
-  overspends_brings disposition.Deviates is over gives = absurd (true≢false (sym over))
-  overspends_brings disposition.Unexpected is over gives = absurd (true≢false (sym over))
+  -- a message that is read
+  pub message_brings : (c : MessageData) → ReadsMessage setup.role old payload c → message_in old.known.shares payload ≡ Ok c
+      → Works setup old new payload before after (work setup old.known c) → Brings setup old new packet payload before after
+  message_brings c r read works = reads_brings r.reads r.within (rw read works)
 
   pub unknown_brings : disposition_by setup.role old.phase old.known.strict old.guess (is_waiting old.known.left) (message_number payload) ≡ disposition.Unknown
       → overspends old.known.allowance payload ≡ false

@@ -43,7 +43,7 @@ rises_push (x ∷ xs) a r all = (questions_push (ComesLater x.question) xs a r.0
 -- what is taken for an answer is one
 taken_twice : (q : QuestionData) (answer : AnswerData) → taken q (taken q answer) ≡ taken q answer
 taken_twice (HostKeyQuestion algorithm blob) answer = refl
-taken_twice (UserQuestion number user service proof) answer = refl
+taken_twice (UserQuestion number user service proof signed) answer = refl
 taken_twice (SignatureQuestion number algorithm blob input) answer = refl
 
 abbrev GivesOne : DecisionsData → AnsweredData → Type 0

@@ -2,6 +2,7 @@
 
 use Rattle.std.proofs.Common.{◌≡◌, inl, inr, ℕ, zero, suc, ◌≤◌, ◌==◌, Bool, true, false, List, [], ◌∷◌, ◌++◌, length, Option, None, Some, Ok, refl, sym, ap, ◌∙◌, subst, append_assoc, arith}
 use Rattle.std.specs.Prelude.{◌&&◌, nat_lt, option_map}
+use Rattle.std.proofs.lemmas.Bool.{cases_Bool}
 use Rattle.sshwire.specs.Types.{IsBytes}
 use Rattle.sshwire.specs.declared.share_form.ShareForm.{ShareForm}
 use Rattle.sshwire.specs.declared.share_form.ShareForm.TheVariants.{Hybrid, Mpint, OctetString}
@@ -26,16 +27,19 @@ use Rattle.sshcore.specs.Brings.{Gives, IsOngoing, StandsAt}
 use Rattle.sshcore.specs.Directions.{spelled_by}
 use Rattle.sshcore.specs.EndData.{EndData, Failed, Open, Reply, fails, goes}
 use Rattle.sshcore.specs.Exchange.{answer_with, exchange_with, host_key_read, keys_by, secret_of, share_read}
-use Rattle.sshcore.specs.Exchanged.{Accepts, AnswersInit, HasForm, IsSigned, JudgesReply, ReceivesExchange, Refuses, StandsAfter, client_shares, exchange_of_message, exchanged, kex_keys, server_shares}
+use Rattle.sshcore.specs.Exchanged.{Accepts, AnswersInit, HasForm, JudgesReply, ReceivesExchange, Refuses, StandsAfter, client_shares, exchange_of_message, exchanged, kex_keys, server_shares}
 use Rattle.sshcore.specs.History.{AllFit, FitsPacket}
 use Rattle.sshcore.specs.StateData.{StateData, with_exchange}
 use Rattle.sshcore.specs.Output.{Sending, sending_from, sent_from, with_newkeys, with_packet}
-use Rattle.sshcore.specs.EndpointParts.{ConfigData, DecisionsData, setup_with}
+use Rattle.sshcore.specs.EndpointParts.{ConfigData, DecisionsData}
 use Rattle.sshcore.specs.KnownBefore.{Known}
 use Rattle.sshcore.specs.Phases.{past_exchange, past_kexinit}
-use Rattle.sshcore.specs.Questions.{SignatureQuestion, exchange_question, init_question}
-use Rattle.sshcore.specs.Signatures.{signature_by}
-use Rattle.sshcore.specs.Work.{init_reply, reply_in, reply_reply, signed_by, signed_reply, told_by, userauth}
+use Rattle.sshcore.specs.Prepared.{IsPrepared, IsPreparedBy}
+use Rattle.sshcore.specs.declared.pending.Prepared.{Prepared}
+use Rattle.sshcore.specs.Questions.{QuestionData, SignatureQuestion}
+use Rattle.sshcore.specs.Signatures.{fitting}
+use Rattle.sshcore.specs.Step.{asked_in, settled}
+use Rattle.sshcore.specs.Work.{answered_step, init_step, reply_in, reply_step, signed_by, signed_reply, told_by, userauth}
 use Rattle.sshcore.proofs.GivesLemmas.{sent_then}
 use Rattle.sshcore.proofs.HistoryLemmas.{fit_both}
 use Rattle.sshcore.proofs.OutputLemmas.{sent_switch, sent_two}
@@ -138,7 +142,7 @@ module _ (m : SuiteData) (role : Side) (config : ConfigData) (old new : StateDat
   }
 
   -- a failure, whatever is hashed
-  receives_failure : (f : Fault) (r : Reply) → r ≡ fails f
+  pub receives_failure : (f : Fault) (r : Reply) → r ≡ fails f
       → ((strict : Bool) (next : KeysData) → Gives m config.seed strict next old new before after (fails f))
       → ReceivesExchange m role config old new before after message r
   receives_failure f r e gives =
@@ -177,88 +181,107 @@ module _ (m : SuiteData) (config : ConfigData) (known : Known) (message : Messag
   unfolding exchange_with exchange_by
   exchange_of_share answer given = rw (read, given) refl
 
-  pub held_asks_none : m.holds known.algorithms.host_key (secret_of config.host_keys known.algorithms.host_key) ≡ true → None ≡ init_question m Server config known message
-  unfolding init_question
+  pub held_asks_none : m.holds known.algorithms.host_key (secret_of config.host_keys known.algorithms.host_key) ≡ true → ◌≡◌ {A = Option QuestionData} None (asked_in (init_step m Server config known message))
+  unfolding init_step
   held_asks_none held = by (answer_with m Server config known.algorithms (Ok message))
     where
-      by : (o : Option ResponseData) → None ≡ exchange_question m config known (exchange_with m Server config known.algorithms known.version known.kexinit (Ok message)) o
+      by : (o : Option ResponseData) → ◌≡◌ {A = Option QuestionData} None (asked_in (answered_step m config known (exchange_with m Server config known.algorithms known.version known.kexinit (Ok message)) o))
       by None = refl
       by (Some answer) = rw held refl
 
-  pub refused_asks_none : m.respond known.algorithms.kex config.random share ≡ None → None ≡ init_question m Server config known message
-  unfolding init_question
+  pub refused_asks_none : m.respond known.algorithms.kex config.random share ≡ None → ◌≡◌ {A = Option QuestionData} None (asked_in (init_step m Server config known message))
+  unfolding init_step
   refused_asks_none none = rw (read, none) refl
 
   pub unheld_asks : (role : Side) (answer : ResponseData) → role ≡ Server → m.respond known.algorithms.kex config.random share ≡ Some answer
       → m.holds known.algorithms.host_key (secret_of config.host_keys known.algorithms.host_key) ≡ false
       → Some (SignatureQuestion 0 known.algorithms.host_key (m.blob known.algorithms.host_key (secret_of config.host_keys known.algorithms.host_key))
-      (exchange_hash m known.algorithms.kex (exchanged role config known (server_shares m config known share answer)))) ≡ init_question m Server config known message
-  unfolding init_question
+      (exchange_hash m known.algorithms.kex (exchanged role config known (server_shares m config known share answer)))) ≡ asked_in (init_step m Server config known message)
+  unfolding init_step
   unheld_asks role answer is given off =
-      let own : init_question m Server config known message ≡ Some (SignatureQuestion 0 known.algorithms.host_key (m.blob known.algorithms.host_key (secret_of config.host_keys known.algorithms.host_key))
+      let own : asked_in (init_step m Server config known message) ≡ Some (SignatureQuestion 0 known.algorithms.host_key (m.blob known.algorithms.host_key (secret_of config.host_keys known.algorithms.host_key))
       (exchange_hash m known.algorithms.kex (exchanged Server config known (server_shares m config known share answer)))) = rw (exchange_of_share answer given, read, given, off) refl in
       ap (λ (r : Side). Some (SignatureQuestion 0 known.algorithms.host_key (m.blob known.algorithms.host_key (secret_of config.host_keys known.algorithms.host_key))
       (exchange_hash m known.algorithms.kex (exchanged r config known (server_shares m config known share answer))))) is ∙ sym own
 
+  -- a server that asks nothing and has answered holds its key
+  pub calm_held : (answer : ResponseData) → m.respond known.algorithms.kex config.random share ≡ Some answer → asked_in (init_step m Server config known message) ≡ None
+      → m.holds known.algorithms.host_key (secret_of config.host_keys known.algorithms.host_key) ≡ true
+  calm_held answer given calm = elim (cases_Bool (m.holds known.algorithms.host_key (secret_of config.host_keys known.algorithms.host_key))) [
+    | inl on ↦ on
+    | inr off ↦ absurd (let bad : Some _ ≡ None = unheld_asks Server answer refl given off ∙ calm in cc)
+  ]
+
+  -- what it replies, whoever decides: it fails without a shared secret, and signs where it holds its key
+  pub settled_fails : (d : DecisionsData) → m.respond known.algorithms.kex config.random share ≡ None → settled d (init_step m Server config known message) ≡ fails fault.Exchange
+  unfolding init_step
+  settled_fails d none = rw (read, none) refl
+
+  -- one that asks nothing and doesn't hold its key has no shared secret
+  pub settled_unheld : (d : DecisionsData) → m.holds known.algorithms.host_key (secret_of config.host_keys known.algorithms.host_key) ≡ false
+      → asked_in (init_step m Server config known message) ≡ None → settled d (init_step m Server config known message) ≡ fails fault.Exchange
+  settled_unheld d off calm = by (m.respond known.algorithms.kex config.random share) refl
+    where
+      by : (o : Option ResponseData) → m.respond known.algorithms.kex config.random share ≡ o → settled d (init_step m Server config known message) ≡ fails fault.Exchange
+      by None none = settled_fails d none
+      by (Some answer) given = absurd (let bad : Some _ ≡ None = unheld_asks Server answer refl given off ∙ calm in cc)
+
+  pub settled_held : (d : DecisionsData) (answer : ResponseData) (hash : List ℕ) → m.respond known.algorithms.kex config.random share ≡ Some answer
+      → m.holds known.algorithms.host_key (secret_of config.host_keys known.algorithms.host_key) ≡ true
+      → hash ≡ exchange_hash m known.algorithms.kex (exchanged Server config known (server_shares m config known share answer))
+      → settled d (init_step m Server config known message)
+      ≡ signed_reply config known (exchange_of_message m Server config known message) (Some (m.sign known.algorithms.host_key (secret_of config.host_keys known.algorithms.host_key) hash))
+  unfolding init_step
+  settled_held d answer hash given on is = rw (is, exchange_of_share answer given, read, given, on) refl
+
+  -- and else by the signature that was given
+  pub settled_asked : (d : DecisionsData) (answer : ResponseData) (hash : List ℕ) → m.respond known.algorithms.kex config.random share ≡ Some answer
+      → m.holds known.algorithms.host_key (secret_of config.host_keys known.algorithms.host_key) ≡ false
+      → hash ≡ exchange_hash m known.algorithms.kex (exchanged Server config known (server_shares m config known share answer))
+      → settled d (init_step m Server config known message)
+      ≡ signed_reply config known (exchange_of_message m Server config known message)
+      (fitting (d.signature 0 known.algorithms.host_key (m.blob known.algorithms.host_key (secret_of config.host_keys known.algorithms.host_key)) hash))
+  unfolding init_step
+  settled_asked d answer hash given off is = rw (is, exchange_of_share answer given, read, given, off) refl
+
+-- The exchange hash of a server that has answered so, its host key, and the message with its signature.
+pub record IsSigned (m : SuiteData) (role : Side) (config : ConfigData) (known : Known) (share : List ℕ) (answer : ResponseData) (signature hash host_key reply : List ℕ) : Type 0 where
+  pub hash_is : hash ≡ exchange_hash m known.algorithms.kex (exchanged role config known (server_shares m config known share answer))
+  pub host_key_is : host_key ≡ (server_shares m config known share answer).host_key
+  pub reply_is : reply ≡ written_message (reply_in (m.share_form known.algorithms.kex) (server_shares m config known share answer).host_key answer.share signature)
+  pub fits : FitsPacket reply
+
 -- A server, that receives this share.
-module _ (m : SuiteData) (d : DecisionsData) (config : ConfigData) (old new : StateData) (before after : List ℕ) (message : MessageData) (share : List ℕ) (read : share_read (Ok message) ≡ share) where
+module _ (m : SuiteData) (config : ConfigData) (old new : StateData) (before after : List ℕ) (message : MessageData) (share : List ℕ) (read : share_read (Ok message) ≡ share) where
   -- what it hashes, once it has answered
   hashed_server : (answer : ResponseData) → m.respond old.known.algorithms.kex config.random share ≡ Some answer
       → exchange_of_message m Server config old.known message ≡ exchanged Server config old.known (server_shares m config old.known share answer)
   unfolding exchange_with exchange_by
   hashed_server answer given = rw (read, given) refl
 
-  -- the signature of that
-  abbrev signature_of : ResponseData → Option (List ℕ)
-  signature_of answer = signature_by m d 0 old.known.algorithms.host_key (secret_of config.host_keys old.known.algorithms.host_key)
-      (exchange_hash m old.known.algorithms.kex (exchanged Server config old.known (server_shares m config old.known share answer)))
-
-  -- and what it replies
-  init_is : (answer : ResponseData) → m.respond old.known.algorithms.kex config.random share ≡ Some answer
-      → init_reply m d Server config old.known message ≡ signed_reply config old.known (exchanged Server config old.known (server_shares m config old.known share answer)) (signature_of answer)
-  unfolding init_reply
-  init_is answer given = rw (hashed_server answer given, read, given) refl
-
-  -- where there is no shared secret it fails
-  pub init_fails : m.respond old.known.algorithms.kex config.random share ≡ None
-      → ((strict : Bool) (next : KeysData) → Gives m config.seed strict next old new before after (fails fault.Exchange))
-      → ReceivesExchange m Server config old new before after message (init_reply m d Server config old.known message)
-  unfolding init_reply
-  init_fails none gives = receives_failure m Server config old new before after message fault.Exchange (init_reply m d Server config old.known message) (rw (read, none) refl) gives
-
-  -- and where there is no signature
-  pub init_unsigned : (role : Side) (answer : ResponseData) → role ≡ Server → m.respond old.known.algorithms.kex config.random share ≡ Some answer
-      → signature_by m d 0 old.known.algorithms.host_key (secret_of config.host_keys old.known.algorithms.host_key)
-      (exchange_hash m old.known.algorithms.kex (exchanged role config old.known (server_shares m config old.known share answer))) ≡ None
-      → ((strict : Bool) (next : KeysData) → Gives m config.seed strict next old new before after (fails fault.Exchange))
-      → ReceivesExchange m Server config old new before after message (init_reply m d Server config old.known message)
-  init_unsigned role answer is given none gives =
-      let unsigned : signature_of answer ≡ None =
-      subst (λ (r : Side). signature_by m d 0 old.known.algorithms.host_key (secret_of config.host_keys old.known.algorithms.host_key)
-      (exchange_hash m old.known.algorithms.kex (exchanged r config old.known (server_shares m config old.known share answer))) ≡ None) is none in
-      receives_failure m Server config old new before after message fault.Exchange (init_reply m d Server config old.known message)
-      (init_is answer given ∙ ap (signed_reply config old.known (exchanged Server config old.known (server_shares m config old.known share answer))) unsigned) gives
+  -- without a signature it fails
+  pub init_unsigned : ((strict : Bool) (next : KeysData) → Gives m config.seed strict next old new before after (fails fault.Exchange))
+      → ReceivesExchange m Server config old new before after message (signed_reply config old.known (exchange_of_message m Server config old.known message) None)
+  init_unsigned gives = receives_failure m Server config old new before after message fault.Exchange (fails fault.Exchange) refl gives
 
   -- else it answers
-  answers_as_server : (answer : ResponseData) (hash host_key reply : List ℕ) → m.respond old.known.algorithms.kex config.random share ≡ Some answer
+  answers_as_server : (answer : ResponseData) (hash host_key reply signature : List ℕ) → m.respond old.known.algorithms.kex config.random share ≡ Some answer
       → old.end ≡ Open → old.phase ≡ phase.Exchange → HasForm m old
-      → IsSigned m d Server config old.known share answer hash host_key reply → AnswersInit m Server config old new host_key answer.shared hash reply before after
-      → ReceivesExchange m Server config old new before after message (init_reply m d Server config old.known message)
-  answers_as_server answer hash host_key reply given ongoing at form signed sent =
+      → IsSigned m Server config old.known share answer signature hash host_key reply → AnswersInit m Server config old new host_key answer.shared hash reply before after
+      → ReceivesExchange m Server config old new before after message (signed_reply config old.known (exchange_of_message m Server config old.known message) (Some signature))
+  answers_as_server answer hash host_key reply signature given ongoing at form signed sent =
       let a : AlgorithmsData = old.known.algorithms in
-      let secret : List ℕ = secret_of config.host_keys a.host_key in
       let x : ExchangeData = exchanged Server config old.known (server_shares m config old.known share answer) in
       let next : KeysData = keys_by m a x Server in
       let keys : kex_keys m a answer.shared hash Server ≡ next = ap (λ (h : List ℕ). kex_keys m a answer.shared h Server) signed.hash_is ∙ keys_of_exchange m a x Server in
-      let made : signature_of answer ≡ Some signed.signature = ap (signature_by m d 0 a.host_key secret) (sym signed.hash_is) ∙ signed.signed in
-      let same : reply ≡ written_message (reply_in old.known.shares x.host_key answer.share signed.signature) =
-      signed.reply_is ∙ ap (λ (f : ShareForm). written_message (reply_in f x.host_key answer.share signed.signature)) (sym (form.form (ap past_kexinit at))) in
+      let same : reply ≡ written_message (reply_in old.known.shares x.host_key answer.share signature) =
+      signed.reply_is ∙ ap (λ (f : ShareForm). written_message (reply_in f x.host_key answer.share signature)) (sym (form.form (ap past_kexinit at))) in
       let told : Units = told_by config old.known in
       let answers : Units = reply ∷ written_message NewKeys ∷ [] in
-      let is : init_reply m d Server config old.known message ≡ goes (reply ∷ written_message NewKeys ∷ told) =
-      init_is answer given ∙ ap (signed_reply config old.known x) made ∙ ap (λ (p : List ℕ). goes (p ∷ written_message NewKeys ∷ told)) (sym same) in
+      let is : signed_reply config old.known (exchange_of_message m Server config old.known message) (Some signature) ≡ goes (reply ∷ written_message NewKeys ∷ told) =
+      ap (λ (y : ExchangeData). signed_reply config old.known y (Some signature)) (hashed_server answer given) ∙ ap (λ (p : List ℕ). goes (p ∷ written_message NewKeys ∷ told)) (sym same) in
       let quiet : (message_number reply == 21) ≡ false =
-      ap (λ (p : List ℕ). message_number p == 21) signed.reply_is ∙ reply_kind (m.share_form a.kex) x.host_key answer.share signed.signature in
+      ap (λ (p : List ℕ). message_number p == 21) signed.reply_is ∙ reply_kind (m.share_form a.kex) x.host_key answer.share signature in
       let two = sent_two m config.seed old.known.strict next old.sending reply (written_message NewKeys) quiet newkeys_kind (form.clear (ap past_exchange at)) in
       let all = sent_then m config.seed old.known.strict next old.sending answers told in
       let own : KeysData = kex_keys m a answer.shared hash Server in
@@ -280,14 +303,13 @@ module _ (m : SuiteData) (d : DecisionsData) (config : ConfigData) (old new : St
       ∙ ap (λ (p : Sending). sending_from m old.known.strict next p told) (sym two.1) ∙ sym all.1)
       (fit_both answers told (signed.fits, (newkeys_fits, tt)) sent.fits))
 
-  pub init_answers : (role : Side) (answer : ResponseData) (shared hash host_key reply : List ℕ) → role ≡ Server → shared ≡ answer.shared
+  pub init_answers : (role : Side) (answer : ResponseData) (hash host_key reply signature : List ℕ) → role ≡ Server
       → m.respond old.known.algorithms.kex config.random share ≡ Some answer → old.end ≡ Open → old.phase ≡ phase.Exchange → HasForm m old
-      → IsSigned m d role config old.known share answer hash host_key reply → AnswersInit m role config old new host_key shared hash reply before after
-      → ReceivesExchange m Server config old new before after message (init_reply m d Server config old.known message)
-  init_answers role answer shared hash host_key reply is same given ongoing at form signed sent =
-      answers_as_server answer hash host_key reply given ongoing at form (subst (λ (r : Side). IsSigned m d r config old.known share answer hash host_key reply) is signed)
-      (subst (λ (l : List ℕ). AnswersInit m Server config old new host_key l hash reply before after) same
-      (subst (λ (r : Side). AnswersInit m r config old new host_key shared hash reply before after) is sent))
+      → IsSigned m role config old.known share answer signature hash host_key reply → AnswersInit m role config old new host_key answer.shared hash reply before after
+      → ReceivesExchange m Server config old new before after message (signed_reply config old.known (exchange_of_message m Server config old.known message) (Some signature))
+  init_answers role answer hash host_key reply signature is given ongoing at form signed sent =
+      answers_as_server answer hash host_key reply signature given ongoing at form (subst (λ (r : Side). IsSigned m r config old.known share answer signature hash host_key reply) is signed)
+      (subst (λ (r : Side). AnswersInit m r config old new host_key answer.shared hash reply before after) is sent)
 
 -- A client, that receives this host key and share.
 module _ (m : SuiteData) (d : DecisionsData) (config : ConfigData) (old new : StateData) (before after : List ℕ) (message : MessageData) (host_key share signature : List ℕ)
@@ -300,34 +322,34 @@ module _ (m : SuiteData) (d : DecisionsData) (config : ConfigData) (old new : St
 
   -- and what it replies, where it trusts the host key
   reply_is : (shared : List ℕ) → d.host_key old.known.algorithms.host_key host_key ≡ true → m.shared old.known.algorithms.kex config.random share ≡ Some shared
-      → reply_reply (setup_with m d Client config) old.known message signature
+      → settled d (reply_step m Client config old.known message signature)
       ≡ signed_by m old.known (exchanged Client config old.known (client_shares m config old.known host_key share shared)) signature (Some (record { share = share; shared = shared }))
-  unfolding reply_reply
+  unfolding reply_step
   reply_is shared trusts given = rw (hashed_client shared given, trusts, read, given) refl
 
   -- it fails where it doesn't trust the host key
   pub reply_distrusts : d.host_key old.known.algorithms.host_key host_key ≡ false
       → ((strict : Bool) (next : KeysData) → Gives m config.seed strict next old new before after (fails fault.HostKey))
-      → ReceivesExchange m Client config old new before after message (reply_reply (setup_with m d Client config) old.known message signature)
-  unfolding reply_reply exchange_with exchange_by
+      → ReceivesExchange m Client config old new before after message (settled d (reply_step m Client config old.known message signature))
+  unfolding reply_step exchange_with exchange_by
   reply_distrusts off gives =
-      receives_failure m Client config old new before after message fault.HostKey (reply_reply (setup_with m d Client config) old.known message signature) (rw (told, off) refl) gives
+      receives_failure m Client config old new before after message fault.HostKey (settled d (reply_step m Client config old.known message signature)) (rw (told, off) refl) gives
 
   -- and where there is no shared secret
   pub reply_fails : d.host_key old.known.algorithms.host_key host_key ≡ true → m.shared old.known.algorithms.kex config.random share ≡ None
       → ((strict : Bool) (next : KeysData) → Gives m config.seed strict next old new before after (fails fault.Exchange))
-      → ReceivesExchange m Client config old new before after message (reply_reply (setup_with m d Client config) old.known message signature)
-  unfolding reply_reply exchange_with exchange_by
+      → ReceivesExchange m Client config old new before after message (settled d (reply_step m Client config old.known message signature))
+  unfolding reply_step exchange_with exchange_by
   reply_fails trusts none gives =
-      receives_failure m Client config old new before after message fault.Exchange (reply_reply (setup_with m d Client config) old.known message signature) (rw (told, trusts, read, none) refl) gives
+      receives_failure m Client config old new before after message fault.Exchange (settled d (reply_step m Client config old.known message signature)) (rw (told, trusts, read, none) refl) gives
 
   -- else the signature decides
   judged_as_client : (shared : List ℕ) → d.host_key old.known.algorithms.host_key host_key ≡ true → m.shared old.known.algorithms.kex config.random share ≡ Some shared
       → old.end ≡ Open → old.phase ≡ phase.Exchange → HasForm m old
       → JudgesReply m Client config old new (client_shares m config old.known host_key share shared) signature before after
-      → ReceivesExchange m Client config old new before after message (reply_reply (setup_with m d Client config) old.known message signature)
+      → ReceivesExchange m Client config old new before after message (settled d (reply_step m Client config old.known message signature))
   judged_as_client shared trusts given ongoing at form (Refuses off gives) =
-      receives_failure m Client config old new before after message fault.Signature (reply_reply (setup_with m d Client config) old.known message signature)
+      receives_failure m Client config old new before after message fault.Signature (settled d (reply_step m Client config old.known message signature))
       (reply_is shared trusts given ∙ rw off refl) gives
   judged_as_client shared trusts given ongoing at form (Accepts on sent) =
       let a : AlgorithmsData = old.known.algorithms in
@@ -337,7 +359,7 @@ module _ (m : SuiteData) (d : DecisionsData) (config : ConfigData) (old new : St
       let keys : kex_keys m a shared hash Client ≡ next = keys_of_exchange m a x Client in
       let request : List ℕ = written_message (ServiceRequest userauth) in
       let o : Sending = with_newkeys old.known.strict (kex_keys m a shared hash Client) old.sending in
-      let is : reply_reply (setup_with m d Client config) old.known message signature ≡ goes (written_message NewKeys ∷ request ∷ []) = reply_is shared trusts given ∙ rw on refl in
+      let is : settled d (reply_step m Client config old.known message signature) ≡ goes (written_message NewKeys ∷ request ∷ []) = reply_is shared trusts given ∙ rw on refl in
       let two = sent_switch m config.seed old.known.strict next old.sending (written_message NewKeys) request newkeys_kind request_kind (form.clear (ap past_exchange at)) in
       subst (λ (r : Reply). ReceivesExchange m Client config old new before after message r) (sym is)
       (receives_on m Client config old new before after message x hash (with_packet m request o) (written_message NewKeys ∷ request ∷ []) (hashed_client shared given) refl ongoing sent.stands
@@ -349,8 +371,15 @@ module _ (m : SuiteData) (d : DecisionsData) (config : ConfigData) (old new : St
   pub reply_judged : (role : Side) (shared body : List ℕ) → role ≡ Client → shared ≡ body → d.host_key old.known.algorithms.host_key host_key ≡ true
       → m.shared old.known.algorithms.kex config.random share ≡ Some body → old.end ≡ Open → old.phase ≡ phase.Exchange → HasForm m old
       → JudgesReply m role config old new (client_shares m config old.known host_key share shared) signature before after
-      → ReceivesExchange m Client config old new before after message (reply_reply (setup_with m d Client config) old.known message signature)
+      → ReceivesExchange m Client config old new before after message (settled d (reply_step m Client config old.known message signature))
   reply_judged role shared body is same trusts given ongoing at form judged =
       judged_as_client body trusts given ongoing at form
       (subst (λ (l : List ℕ). JudgesReply m Client config old new (client_shares m config old.known host_key share l) signature before after) same
       (subst (λ (r : Side). JudgesReply m r config old new (client_shares m config old.known host_key share shared) signature before after) is judged))
+
+-- what was prepared, and that nothing was
+pub prepared_is : (m : SuiteData) (role : Side) (config : ConfigData) (known : Known) (share : List ℕ) (o : Option Prepared) (p : Prepared) → o ≡ Some p → IsPreparedBy m role config known share o → IsPrepared m role config known share p
+prepared_is m role config known share o p is by = subst (λ (x : Option Prepared). IsPreparedBy m role config known share x) is by
+
+pub none_prepared : (m : SuiteData) (role : Side) (config : ConfigData) (known : Known) (share : List ℕ) (o : Option Prepared) → o ≡ None → IsPreparedBy m role config known share o → m.respond known.algorithms.kex config.random share ≡ None
+none_prepared m role config known share o is by = subst (λ (x : Option Prepared). IsPreparedBy m role config known share x) is by

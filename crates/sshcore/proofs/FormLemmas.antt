@@ -1,6 +1,6 @@
 -- Before a choice nothing depends on the form of shares.
 
-use Rattle.std.proofs.Common.{◌≡◌, ◌≢◌, ℕ, Bool, false, List, Result, Ok, Err, refl, ap, ◌∙◌, arith}
+use Rattle.std.proofs.Common.{◌≡◌, ◌≢◌, ℕ, Bool, false, List, Result, Ok, Err, refl, sym, ap, ◌∙◌, arith}
 use Rattle.sshwire.specs.declared.share_form.ShareForm.{ShareForm}
 use Rattle.sshmsg.specs.declared.fault.MsgFault.{MsgFault}
 use Rattle.sshmsg.specs.MessageData.{KexEcdhInit, KexEcdhReply, KexInit, KexdhInit, KexdhReply, MessageData}
@@ -15,8 +15,8 @@ use Rattle.sshcore.specs.EndpointParts.{Setup}
 use Rattle.sshcore.specs.Plan.{is_waiting}
 use Rattle.sshcore.specs.Replies.{allowed, disposition_reply, read_reply}
 use Rattle.sshcore.specs.Table.{disposition_by}
-use Rattle.sshcore.specs.Requests.{request_reply}
-use Rattle.sshcore.specs.Work.{kexinit_reply, work}
+use Rattle.sshcore.specs.Work.{kexinit_reply}
+use Rattle.sshcore.proofs.StepLemmas.{request_reply, work_is, worked}
 use Rattle.sshcore.proofs.LawsBelow.{Below}
 use Rattle.sshcore.proofs.StrictLemmas.{leaving_kexinit}
 use Rattle.sshcore.proofs.TableLemmas.{Closing, Dropped, Leaving, OffGuess, OffPhase, Sees, Staying, Useless, sees}
@@ -33,8 +33,8 @@ no_share role strict n (Staying none off out calm e) = (calm.init, calm.reply)
 no_share role strict n (Useless none off out is) = absurd cc
 
 module _ (below : Below) (setup : Setup) where
-  alike_work : (known : Known) (form : ShareForm) (c : MessageData) → number_of c ≢ 30 → number_of c ≢ 31 → work setup (record known { shares = form }) c ≡ work setup known c
-  unfolding work kexinit_reply request_reply
+  alike_work : (known : Known) (form : ShareForm) (c : MessageData) → number_of c ≢ 30 → number_of c ≢ 31 → worked setup (record known { shares = form }) c ≡ worked setup known c
+  unfolding worked kexinit_reply request_reply
   alike_work known form (KexInit peer) a b = refl
   alike_work known form (KexdhInit e) a b = absurd (a refl)
   alike_work known form (KexEcdhInit share) a b = absurd (a refl)
@@ -48,7 +48,7 @@ module _ (below : Below) (setup : Setup) where
       ap (λ r. read_reply setup (record known { shares = form }) (message_number payload) r) (below.alike form known.shares payload a b) ∙ by (message_in known.shares payload) refl
     where
       by : (r : Result MessageData MsgFault) → message_in known.shares payload ≡ r → read_reply setup (record known { shares = form }) (message_number payload) r ≡ read_reply setup known (message_number payload) r
-      by (Ok c) e = let is = below.numbers known.shares payload c e in alike_work known form c (λ q. a (is ∙ q)) (λ q. b (is ∙ q))
+      by (Ok c) e = let is = below.numbers known.shares payload c e in work_is setup (record known { shares = form }) c ∙ (alike_work known form c (λ q. a (is ∙ q)) (λ q. b (is ∙ q)) ∙ sym (work_is setup known c))
       by (Err f) e = refl
 
   alike_disposition : (known : Known) (packet : ℕ) (payload : List ℕ) (form : ShareForm) (strict : Bool) (l : Disposition) → Sees setup.role phase.KexInit strict false (message_number payload) l

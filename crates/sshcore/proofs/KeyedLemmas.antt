@@ -24,7 +24,7 @@ use Rattle.sshcore.specs.declared.phase_table.Disposition.{Disposition}
 use Rattle.sshcore.specs.declared.phase_table.Disposition.TheVariants as disposition
 use Rattle.sshcore.specs.declared.phase_table.Phase.{Phase}
 use Rattle.sshcore.specs.declared.phase_table.Phase.TheVariants as phase
-use Rattle.sshcore.specs.Attempts.{answers_query, attempt_reply, pk_ok_reply, success_by}
+use Rattle.sshcore.specs.Attempts.{answers_query, success_by}
 use Rattle.sshcore.specs.Before.{expects_guess, kept, offered, stood, strict_at, strict_towards}
 use Rattle.sshcore.specs.ConfigParts.{AttemptData}
 use Rattle.sshcore.specs.Counting.{number_in, switched_out}
@@ -36,10 +36,10 @@ use Rattle.sshcore.specs.EndpointParts.{ConfigData, DecisionsData, Setup}
 use Rattle.sshcore.specs.Phases.{leaving}
 use Rattle.sshcore.specs.Plan.{confirmed, next_after}
 use Rattle.sshcore.specs.Replies.{answers_at, disposition_reply, read_reply}
-use Rattle.sshcore.specs.Requests.{request_reply}
 use Rattle.sshcore.specs.Standing.{Tied}
 use Rattle.sshcore.specs.Table.{disposition_by}
-use Rattle.sshcore.specs.Work.{accept_reply, banner_by, chosen_reply, guess_of, guessed_method, init_for, init_in, kexinit_reply, making, opening, service_reply, userauth, work}
+use Rattle.sshcore.specs.Work.{banner_by, chosen_reply, guess_of, guessed_method, init_for, init_in, kexinit_reply, making, opening, service_reply, userauth}
+use Rattle.sshcore.proofs.StepLemmas.{accept_reply, attempt_reply, pk_ok_reply, request_reply, work_is, worked}
 use Rattle.sshcore.proofs.IgnoredLimitLemmas.{by_allowance}
 use Rattle.sshcore.proofs.AnswerLemmas.{Confirmed, Elsewhere, IsAnswered, IsRefusal, Last, More, Refused, Succeeds, answered}
 use Rattle.sshcore.proofs.LawsBelow.{Below}
@@ -166,8 +166,8 @@ pub record IsExchange (role : Side) (payload : List ℕ) (p : Phase) (guess : Bo
 
 module _ (below : Below) (setup : Setup) where
   -- a message that isn't an exchange message is answered without one
-  still_work : (known : Known) (c : MessageData) → number_of c ≢ 30 → number_of c ≢ 31 → IsStill (work setup known c).answers
-  unfolding work
+  still_work : (known : Known) (c : MessageData) → number_of c ≢ 30 → number_of c ≢ 31 → IsStill (worked setup known c).answers
+  unfolding worked
   still_work known (KexInit peer) a b = still_kexinit setup.suite setup.config setup.role known peer
   still_work known (KexdhInit e) a b = absurd (a refl)
   still_work known (KexEcdhInit share) a b = absurd (a refl)
@@ -187,7 +187,7 @@ module _ (below : Below) (setup : Setup) where
       by_allowance (λ (r : Reply). IsStill r.answers) known payload (read_reply setup known (message_number payload) (message_in known.shares payload)) (still_fails fault.TooMuchIgnored) (by (message_in known.shares payload) refl)
     where
       by : (r : Result MessageData MsgFault) → message_in known.shares payload ≡ r → IsStill (read_reply setup known (message_number payload) r).answers
-      by (Ok c) e = let is = below.numbers known.shares payload c e in still_work known c (λ q. a (is ∙ q)) (λ q. b (is ∙ q))
+      by (Ok c) e = let is = below.numbers known.shares payload c e in subst (λ (x : Reply). IsStill x.answers) (sym (work_is setup known c)) (still_work known c (λ q. a (is ∙ q)) (λ q. b (is ∙ q)))
       by (Err f) e = still_fails (fault.Malformed (message_number payload))
 
   still_unknown : (known : Known) (packet : ℕ) (payload : List ℕ) → IsStill (disposition_reply setup known packet disposition.Unknown payload).answers

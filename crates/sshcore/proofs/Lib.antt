@@ -18,6 +18,7 @@ pub mod PlanLemmas
 pub mod IgnoredLimitLemmas
 pub mod KnownLemmas
 pub mod CountingLemmas
+pub mod StepLemmas
 pub mod SignatureLemmas
 pub mod StandingLemmas
 pub mod StreamLemmas
@@ -50,8 +51,9 @@ pub mod AnsweredLemmas
 pub mod AfterLemmas
 pub mod WorksLemmas
 pub mod BringsLemmas
-pub mod QuestionLemmas
-pub mod AskedLemmas
+pub mod PendingLemmas
+pub mod JudgingLemmas
+pub mod AnsweringLemmas
 pub mod AttemptLemmas
 pub mod BeginLemmas
 pub mod CallLemmas

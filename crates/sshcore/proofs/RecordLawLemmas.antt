@@ -90,8 +90,7 @@ asking_as_here setup kept i j (Some v) (Some w) h s same waits a =
           after = other.0;
           was = read.was;
           is = other.1;
-          reads = subst (λ (payload : List ℕ). ahead setup.suite (packet_reader_data read.before) a.unread.0 ≡ whole payload (length (packet_reader_data read.before).held + length a.unread.0)) (sym waits.1) read.reads;
-          number = waits.0 ∙ read.number;
+          reads = subst (λ (payload : List ℕ). ahead setup.suite (packet_reader_data read.before) a.unread.0 ≡ whole payload (length (packet_reader_data read.before).held + length a.unread.0)) (sym waits.0) read.reads;
           left = other.2 ∙ read.left;
         },
       );
@@ -106,7 +105,7 @@ asked_here : (end : EndData) (v w : Option WaitingData) → IsSameWaiting v w �
 asked_here Open None None same = refl
 asked_here Open None (Some w) same = absurd same
 asked_here Open (Some v) None same = absurd same
-asked_here Open (Some v) (Some w) same = ap Some same.2
+asked_here Open (Some v) (Some w) same = ap Some same.1
 asked_here (Authenticated a) v w same = refl
 asked_here (Failed f) v w same = refl
 asked_here (Closed n) v w same = refl

@@ -18,14 +18,15 @@ use Rattle.sshcore.specs.Brings.{IsOngoing}
 use Rattle.sshcore.specs.ConfigParts.{AttemptData}
 use Rattle.sshcore.specs.Inputs.{CanRead}
 use Rattle.sshcore.specs.Unread.{IsAsked, IsAskedBy, IsIdle}
-use Rattle.sshcore.specs.EndData.{EndData}
+use Rattle.sshcore.specs.EndData.{EndData, Open}
 use Rattle.sshcore.specs.EndpointParts.{ConfigData}
 use Rattle.sshcore.specs.Exchanged.{HasForm}
 use Rattle.sshcore.specs.Paused.{PausedData, kept_by, kept_with, with_left}
-use Rattle.sshcore.specs.Record.{HasLine, missing_by, packet_of, reader_of, record_of, wanted}
+use Rattle.sshcore.specs.QuestionAt.{question_at}
+use Rattle.sshcore.specs.Record.{HasLine, missing_by, payload_of, reader_of, record_of, wanted}
 use Rattle.sshcore.specs.RecordData.{OfLines, OfPackets, ReaderRecord, RecordData}
-use Rattle.sshcore.specs.RecordMade.{FitsState, IsInputOf, IsReaderOf, IsReading, IsRecorded, IsSameInput, missing_in, state_in, wants}
-use Rattle.sshcore.specs.RecordView.{packet_record, reader_record, record_data}
+use Rattle.sshcore.specs.RecordMade.{FitsState, IsInputOf, IsReaderOf, IsReading, IsRecorded, IsSameInput, IsSameWaiting, missing_in, state_in, wants}
+use Rattle.sshcore.specs.RecordView.{reader_record, record_data}
 use Rattle.sshcore.specs.StateData.{StateData, left_of, state_data}
 
 pub none_some : {A : Type 0} (o : Option A) (a : A) → o ≡ None → o ≡ Some a → ⊥
@@ -43,7 +44,7 @@ reads_so m (input.Lines q) reads = tt
 reads_so m (input.Packets q) reads = reads.unfinished_is
 
 -- a reader of packets wants as many bytes more as its record says
-missing_at : (m : SuiteData) (i : Input) (w : Option WaitingData) → CanRead m i → missing_by i w ≡ missing_in m (reader_of i) (option_map packet_of w)
+missing_at : (m : SuiteData) (i : Input) (w : Option WaitingData) → CanRead m i → missing_by i w ≡ missing_in m (reader_of i) (option_map payload_of w)
 missing_at m (input.Lines q) None reads = refl
 missing_at m (input.Packets q) None reads = ap (λ (n : ℕ). n - length (packet_reader_data q).held) reads.knows
 missing_at m i (Some w) reads = refl
@@ -70,13 +71,28 @@ same_input m form (input.Packets q) (input.Lines t) reads reading is = absurd is
 same_input m form (input.Packets q) (input.Packets t) reads reading is =
     is ∙ ap (λ (f : Option PacketFault). record (packet_reader_data q) { fault = f }) (sym reads.no_fault)
 
+-- the packet for which an open endpoint waits, by its record
+pub waits_for : (m : SuiteData) (role : Side) (config : ConfigData) (kept : StateData) (j : Input) (v : Option WaitingData) (payload : List ℕ) → kept.end ≡ Open → IsAskedBy m role config kept j v
+    → option_map payload_of v ≡ Some payload → (w : WaitingData) × (v ≡ Some w) × (w.payload ≡ payload) × IsAsked m role config kept j w
+waits_for m role config kept j None payload is_open asked told = absurd cc
+waits_for m role config kept j (Some w) payload is_open asked told = (w, refl, cc, asked (inl is_open))
+
+-- the same packet waits, since it asks one question
+pub waits_for_same : (m : SuiteData) (role : Side) (config : ConfigData) (kept : StateData) (v : Option WaitingData) (w x : WaitingData) → v ≡ Some w → w.payload ≡ x.payload
+    → question_at m role config kept w.payload ≡ Some w.question → question_at m role config kept x.payload ≡ Some x.question → IsSameWaiting v (Some x)
+waits_for_same m role config kept v w x is payload asks asked =
+    subst (λ (o : Option WaitingData). IsSameWaiting o (Some x)) (sym is) (
+      sym payload,
+      some_is x.question w.question (sym asked ∙ ap (question_at m role config kept) (sym payload) ∙ asks),
+    )
+
 asked_by : (m : SuiteData) (role : Side) (config : ConfigData) (old new : StateData) (i j : Input) (v : Option WaitingData) → old ≡ new → (IsIdle i → IsIdle j)
     → IsAskedBy m role config old i v → IsAskedBy m role config new j v
 asked_by m role config old new i j None same idle asked = tt
 asked_by m role config old new i j (Some w) same idle asked = λ ongoing.
     let a = asked (subst (λ (k : StateData). IsOngoing k.end) (sym same) ongoing) in
     let b = subst (λ (k : StateData). IsAsked m role config k i w) same a in
-    record { is_open = b.is_open; idle = idle b.idle; short = b.short; asks = b.asks; prepared = b.prepared }
+    record { is_open = b.is_open; idle = idle b.idle; short = b.short; asks = b.asks; keeps = b.keeps }
 
 module _ {S : Type 0} (meaning : S → SuiteData) (role : Side) (config : ConfigData) (suite : S) (bytes : List ℕ) (p : PausedData S) (r : IsRecorded meaning role config suite bytes p) where
   pub fits_state : FitsState (record_of p)
@@ -128,7 +144,7 @@ module _ {S : Type 0} (meaning : S → SuiteData) (role : Side) (config : Config
       )
 
   pub missing_so : (parts : RecordParts) → record_data parts ≡ record_of p
-      → parts.missing ≡ missing_in (meaning suite) (reader_record parts.reader) (option_map packet_record parts.waiting)
+      → parts.missing ≡ missing_in (meaning suite) (reader_record parts.reader) (option_map (λ payload. payload.now) parts.waiting)
   missing_so parts told =
       ap (λ (x : RecordData). x.missing) told ∙ (missing_at (meaning suite) p.input p.waiting (r.fits.fits.reads (inl r.is_record.is_open))
       ∙ sym (ap (λ (x : RecordData). missing_in (meaning suite) x.reader x.waiting) told))

@@ -1,87 +1,37 @@
 -- What a request of authentication proves, and how it is answered.
 
-use Rattle.std.proofs.Common.{◌≡◌, ◌↔◌, Bor, ℕ, ◌≤◌, Bool, true, false, List, [], ◌∷◌, length, map, Option, None, Some, option_map, inl, inr, refl, sym, ap, ◌∙◌, arith, if◌then◌else◌}
-use Rattle.std.specs.Prelude.{◌&&◌, codes, nat_le}
-use Rattle.std.proofs.lemmas.Bool.{cases_Bool}
+use Rattle.std.proofs.Common.{◌≡◌, Bor, ℕ, ◌≤◌, Bool, true, false, List, [], ◌∷◌, length, map, Option, None, Some, option_map, inl, inr, refl, sym, ap, ◌∙◌, arith, cond, if◌then◌else◌}
+use Rattle.std.specs.Prelude.{◌&&◌, IfSome, nat_le, string_bytes}
 use Rattle.std.proofs.lemmas.List.{length-map}
-use Rattle.sshwire.specs.TypeReadings.{is_name}
-use Rattle.sshwire.specs.Types.{IsName, names_body}
-use Rattle.sshmsg.specs.declared.message.Method as message_method
-use Rattle.sshmsg.specs.MessageData.{MessageData, MethodData, NoMethod, OtherMethod, Password, PasswordChange, PublicKey, PublicKeyQuery, UserauthFailure, UserauthPkOk, UserauthSuccess, method_name}
-use Rattle.sshmsg.specs.View.{method_data}
+use Rattle.sshwire.specs.Types.{names_body}
+use Rattle.sshmsg.specs.MessageData.{MessageData, MethodData, NoMethod, OtherMethod, Password, PasswordChange, PublicKey, PublicKeyQuery, UserauthFailure, UserauthSuccess, method_name}
 use Rattle.sshmsg.specs.Written.{written_message}
 use Rattle.sshneg.specs.ChoiceReadings.{is_in}
-use Rattle.sshneg.specs.Derivations.{signed_text}
 use Rattle.sshpacket.specs.Suite.{SuiteData}
 use Rattle.sshcore.specs.declared.end.Fault.TheVariants as fault
 use Rattle.sshcore.specs.Attempts.{agreed_by}
 use Rattle.sshcore.specs.EndData.{Authenticated, EndData, Reply, fails, goes}
-use Rattle.sshcore.specs.Authenticating.{tried_key}
+use Rattle.sshcore.specs.Authenticating.{FitsClaim, HasName, claimed_reply, claims, tried_key}
+use Rattle.sshcore.specs.Brings.{IsOngoing}
 use Rattle.sshcore.specs.StateData.{Carried, StateData}
 use Rattle.sshcore.specs.KnownBefore.{Known}
 use Rattle.sshcore.specs.EndpointParts.{ConfigData, DecisionsData, KeyProof, ProofData}
-use Rattle.sshcore.specs.Requests.{completes, is_successful, method_reply, more_reply, query_answer, request_reply, tried_reply, would_do}
-use Rattle.sshcore.specs.CompletedMethods.{CompletedMethodsData, completed_after_one, is_complete, kept_completed, successful_completed}
-use Rattle.sshcore.specs.Tries.{claimed_proof, is_decided, is_successful_at, is_verified, key_of, proof_in, tried_with}
+use Rattle.sshcore.specs.Requests.{claim_step, completes, is_last_try, is_signed, is_successful, may_do, method_step, more_reply, query_reply, request_step, tried_reply}
+use Rattle.sshcore.specs.Questions.{QuestionData, UserQuestion, decided, is_yes}
+use Rattle.sshcore.specs.QuestionsView.{claim_method, claim_proof}
+use Rattle.sshcore.specs.Step.{AtOnce, Asks, asked_in, settled}
+use Rattle.sshmsg.specs.declared.message.Method.{Method}
+use Rattle.sshmsg.specs.declared.message.Method.TheVariants as method
+use Rattle.sshmsg.specs.View.{method_data}
+use Rattle.sshcore.specs.Judging.{KeepsMethod}
+use Rattle.sshcore.specs.declared.pending.Claim.{Claim}
+use Rattle.sshcore.specs.declared.pending.Claim.TheVariants as claim
+use Rattle.std.specs.Global.{Global, Vec}
+use Rattle.std.specs.Prelude.{String}
+use Rattle.sshcore.specs.CompletedMethods.{completed_after_one, is_complete, kept_completed, successful_completed}
+use Rattle.sshcore.specs.Tries.{is_decided, key_of, proof_in, tried_with}
 use Rattle.sshcore.proofs.ConfigLemmas.{BodyLaw}
 use Rattle.sshcore.proofs.ConfigOffers.{few_names}
-
-module _ (m : SuiteData) (session user service algorithm key signature : List ℕ) where
-  -- under an algorithm that is no name nothing holds
-  pub unnamed_signed : (IsName algorithm → ⊥) → (is_name algorithm ≡ true) ↔ IsName algorithm → false ≡ is_verified m session user service (PublicKey algorithm key signature)
-  unnamed_signed off same = elim (cases_Bool (is_name algorithm)) [
-    | inl is ↦ absurd (off (same.0 is))
-    | inr not ↦ rw not refl
-  ]
-
-  -- under a name the signature decides
-  pub named_signed : (name input : List ℕ) → name ≡ algorithm → IsName algorithm → (is_name algorithm ≡ true) ↔ IsName algorithm
-      → input ≡ signed_text session user service name key → m.verify name key input signature ≡ is_verified m session user service (PublicKey algorithm key signature)
-  named_signed name input e is same made =
-      let named : is_name algorithm ≡ true = same.1 is in
-      rw (named, made, e) refl
-
--- what claims nothing, or is decided no, isn't successful
-and_refused : (holds agrees : Bool) → agrees ≡ false → false ≡ (holds && agrees)
-and_refused true agrees e = sym e
-and_refused false agrees e = refl
-
-and_agreed : (holds agrees : Bool) → agrees ≡ true → holds ≡ (holds && agrees)
-and_agreed true agrees e = sym e
-and_agreed false agrees e = refl
-
-signed_claim : (decide : Option ProofData → Bool) (proof : ProofData) → decide None ≡ false → (listed named able signed : Bool)
-    → decide (if listed then (if (named && able) && signed then Some proof else None) else None) ≡ ((named && signed) && decide (if listed && (named && able) then Some proof else None))
-signed_claim decide proof none false named able signed = none ∙ and_refused (named && signed) (decide None) none
-signed_claim decide proof none true false able signed = none
-signed_claim decide proof none true true false signed = none ∙ and_refused signed (decide None) none
-signed_claim decide proof none true true true true = refl
-signed_claim decide proof none true true true false = none
-
-module _ (m : SuiteData) (d : DecisionsData) (config : ConfigData) (session : List ℕ) (number : ℕ) (user service : List ℕ) where
-  -- a request is successful if what it claims holds, and the decision on that is yes
-  pub successful_claim : (method : MethodData) → is_successful_at m d config session number user service method
-      ≡ (is_verified m session user service method && is_decided d number user service (claimed_proof m config method))
-  unfolding proof_in claimed_proof
-  successful_claim NoMethod = refl
-  successful_claim (Password password) = refl
-  successful_claim (PasswordChange old new) = refl
-  successful_claim (PublicKey algorithm key signature) =
-      signed_claim (λ o. is_decided d number user service o) (KeyProof algorithm key) refl (is_in config.methods (codes "publickey")) (is_name algorithm) (m.can algorithm).signature
-      (m.verify algorithm key (signed_text session user service algorithm key) signature)
-  successful_claim (PublicKeyQuery algorithm key) = refl
-  successful_claim (OtherMethod name fields) = refl
-
-  module _ (method : MethodData) (claim : Option ProofData) (claims : claim ≡ claimed_proof m config method) where
-    pub claim_refused : is_decided d number user service claim ≡ false → false ≡ is_successful_at m d config session number user service method
-    claim_refused refused =
-        and_refused (is_verified m session user service method) (is_decided d number user service claim) refused
-        ∙ (ap (λ o. is_verified m session user service method && is_decided d number user service o) claims ∙ sym (successful_claim method))
-
-    pub claim_accepted : is_decided d number user service claim ≡ true → is_verified m session user service method ≡ is_successful_at m d config session number user service method
-    claim_accepted accepted =
-        and_agreed (is_verified m session user service method) (is_decided d number user service claim) accepted
-        ∙ (ap (λ o. is_verified m session user service method && is_decided d number user service o) claims ∙ sym (successful_claim method))
 
 -- the names of a short text are few
 pub few_texts : {X : Type 0} → BodyLaw → (view : X → List ℕ) (texts : List X) (names : List (List ℕ)) → map view texts ≡ names → length (names_body names) ≤ 1000
@@ -107,32 +57,154 @@ pub had : (has : Bool) (name : List ℕ) (found : Option (Bor (List ℕ))) (own 
 had true name found own e is = (refl, cc)
 had false name found own e is = absurd cc
 
-module _ (m : SuiteData) (d : DecisionsData) (config : ConfigData) (known : Known) (user service : List ℕ) (method : MethodData) (found : Option (Bor (List ℕ))) (e : FindsService config service found) where
-  -- the answer to a request of a service that the server doesn't have
-  pub reply_elsewhere : found ≡ None → fails fault.Service ≡ request_reply m d config known user service method
-  unfolding request_reply
-  reply_elsewhere is =
-      let off : is_in config.services service ≡ false = missed (is_in config.services service) service found e is in
-      rw off refl
+-- what a request asks, by what is kept of what it claims
+pub claims_ask : (config : ConfigData) (known : Known) (user service : List ℕ) (method kept : MethodData) (o : Option Claim) (p : Option ProofData) → is_signed kept ≡ is_signed method
+    → option_map claim_proof o ≡ p → IfSome o (λ c. claim_method c ≡ kept)
+    → option_map (λ c. UserQuestion known.request user service (claim_proof c) (is_signed (claim_method c))) o ≡ asked_in (claim_step config known user service method p)
+claims_ask config known user service method kept None p same proves keeps = rw (← proves) refl
+claims_ask config known user service method kept (Some c) p same proves keeps =
+    ap (λ (b : Bool). Some (UserQuestion known.request user service (claim_proof c) b)) (ap is_signed keeps ∙ same) ∙ (rw (← proves) refl)
 
-  module _ (own : Bor (List ℕ)) (is : found ≡ Some own) where
-    both : (is_in config.services service ≡ true) × (own.now ≡ service)
-    both = had (is_in config.services service) service found own e is
+module _ (m : SuiteData) (d : DecisionsData) (config : ConfigData) (known : Known) (user service : List ℕ) where
+  -- a request that asks nothing is answered as one that was tried in vain
+  calm_query : (last may : Bool) (f : Reply) (q : QuestionData) (g : Bool → Reply) → asked_in (cond last (AtOnce f) (cond may (Asks q (λ answer. g (is_yes answer))) (AtOnce (g false)))) ≡ None
+      → cond last f (g false) ≡ settled d (cond last (AtOnce f) (cond may (Asks q (λ answer. g (is_yes answer))) (AtOnce (g false))))
+  calm_query true may f q g calm = refl
+  calm_query false true f q g calm = absurd cc
+  calm_query false false f q g calm = refl
 
-    -- of a service that it has, to a query
-    pub reply_query : (algorithm key : List ℕ) → method ≡ PublicKeyQuery algorithm key
-        → more_reply config known (query_answer m d config known user own.now algorithm key) ≡ request_reply m d config known user service method
-    unfolding request_reply
-    reply_query algorithm key query = rw (query, both.0, both.1) refl
+  calm_claim : (method : MethodData) (o : Option ProofData) → asked_in (claim_step config known user service method o) ≡ None
+      → more_reply config known (UserauthFailure config.methods false) ≡ settled d (claim_step config known user service method o)
+  calm_claim method None calm = refl
+  calm_claim method (Some proof) calm = absurd cc
 
-    -- to another request
-    pub reply_other : (successful : Bool) → (method_reply m d config known user service method ≡ tried_reply config known user service method (is_successful m d config known user service method))
-        → is_successful m d config known user own.now method ≡ successful
-        → tried_reply config known user own.now method successful ≡ request_reply m d config known user service method
-    unfolding request_reply
-    reply_other successful other is_so =
-        let here : is_successful m d config known user service method ≡ successful = rw both.1 at is_so in
-        rw (both.0, other, here, both.1) refl
+  calm_method : (method : MethodData) → asked_in (method_step m config known user service method) ≡ None
+      → more_reply config known (UserauthFailure config.methods false) ≡ settled d (method_step m config known user service method)
+  calm_method NoMethod calm = calm_claim NoMethod (proof_in m config known.session user service NoMethod) calm
+  calm_method (Password password) calm = calm_claim (Password password) (proof_in m config known.session user service (Password password)) calm
+  calm_method (PasswordChange old new) calm = calm_claim (PasswordChange old new) (proof_in m config known.session user service (PasswordChange old new)) calm
+  calm_method (PublicKey algorithm key signature) calm = calm_claim (PublicKey algorithm key signature) (proof_in m config known.session user service (PublicKey algorithm key signature)) calm
+  calm_method (PublicKeyQuery algorithm key) calm =
+      calm_query (is_last_try config known) (may_do m config algorithm key) (fails fault.TooManyTries) (UserQuestion known.request user service (KeyProof algorithm key) false) (query_reply config algorithm key) calm
+  calm_method (OtherMethod name fields) calm = calm_claim (OtherMethod name fields) (proof_in m config known.session user service (OtherMethod name fields)) calm
+
+  -- and is none that is successful
+  vain_claim : (method : MethodData) (o : Option ProofData) → asked_in (claim_step config known user service method o) ≡ None → is_decided d known.request user service o ≡ false
+  vain_claim method None calm = refl
+  vain_claim method (Some proof) calm = absurd cc
+
+  vain_method : (method : MethodData) → asked_in (method_step m config known user service method) ≡ None → is_successful m d config known user service method ≡ false
+  unfolding proof_in
+  vain_method NoMethod calm = vain_claim NoMethod (proof_in m config known.session user service NoMethod) calm
+  vain_method (Password password) calm = vain_claim (Password password) (proof_in m config known.session user service (Password password)) calm
+  vain_method (PasswordChange old new) calm = refl
+  vain_method (PublicKey algorithm key signature) calm = vain_claim (PublicKey algorithm key signature) (proof_in m config known.session user service (PublicKey algorithm key signature)) calm
+  vain_method (PublicKeyQuery algorithm key) calm = refl
+  vain_method (OtherMethod name fields) calm = refl
+
+  -- a request that asks is answered by the answer
+  asked_query : (last may : Bool) (f : Reply) (q : QuestionData) (g : Bool → Reply) (x : QuestionData)
+      → asked_in (cond last (AtOnce f) (cond may (Asks q (λ answer. g (is_yes answer))) (AtOnce (g false)))) ≡ Some x
+      → settled d (cond last (AtOnce f) (cond may (Asks q (λ answer. g (is_yes answer))) (AtOnce (g false)))) ≡ g (is_yes (decided d x))
+  asked_query true may f q g x asks = absurd cc
+  asked_query false true f q g x asks = let same : q ≡ x = cc in ap (λ (y : QuestionData). g (is_yes (decided d y))) same
+  asked_query false false f q g x asks = absurd cc
+
+  asked_claim : (method : MethodData) (o : Option ProofData) (x : QuestionData) → asked_in (claim_step config known user service method o) ≡ Some x
+      → settled d (claim_step config known user service method o) ≡ tried_reply config known user service method (is_yes (decided d x))
+  asked_claim method None x asks = absurd cc
+  asked_claim method (Some proof) x asks =
+      let same : UserQuestion known.request user service proof (is_signed method) ≡ x = cc in
+      ap (λ (y : QuestionData). tried_reply config known user service method (is_yes (decided d y))) same
+
+  asked_method : (method : MethodData) (x : QuestionData) → asked_in (method_step m config known user service method) ≡ Some x
+      → settled d (method_step m config known user service method) ≡ claimed_reply config known user service method (is_yes (decided d x))
+  asked_method NoMethod x asks = asked_claim NoMethod (proof_in m config known.session user service NoMethod) x asks
+  asked_method (Password password) x asks = asked_claim (Password password) (proof_in m config known.session user service (Password password)) x asks
+  asked_method (PasswordChange old new) x asks = asked_claim (PasswordChange old new) (proof_in m config known.session user service (PasswordChange old new)) x asks
+  asked_method (PublicKey algorithm key signature) x asks = asked_claim (PublicKey algorithm key signature) (proof_in m config known.session user service (PublicKey algorithm key signature)) x asks
+  asked_method (PublicKeyQuery algorithm key) x asks =
+      asked_query (is_last_try config known) (may_do m config algorithm key) (fails fault.TooManyTries) (UserQuestion known.request user service (KeyProof algorithm key) false) (query_reply config algorithm key) x asks
+  asked_method (OtherMethod name fields) x asks = asked_claim (OtherMethod name fields) (proof_in m config known.session user service (OtherMethod name fields)) x asks
+
+  -- and is successful by it
+  decided_claim : (method : MethodData) (o : Option ProofData) (x : QuestionData) → asked_in (claim_step config known user service method o) ≡ Some x
+      → is_decided d known.request user service o ≡ is_yes (decided d x)
+  decided_claim method None x asks = absurd cc
+  decided_claim method (Some proof) x asks =
+      let same : UserQuestion known.request user service proof (is_signed method) ≡ x = cc in
+      ap (λ (y : QuestionData). is_yes (decided d y)) same
+
+  query_unsuccessful : (algorithm key : List ℕ) → is_successful m d config known user service (PublicKeyQuery algorithm key) ≡ false
+  unfolding proof_in
+  query_unsuccessful algorithm key = refl
+
+  decided_method : (method : MethodData) (x : QuestionData) → asked_in (method_step m config known user service method) ≡ Some x
+      → is_successful m d config known user service method ≡ (claims method && is_yes (decided d x))
+  decided_method NoMethod x asks = decided_claim NoMethod (proof_in m config known.session user service NoMethod) x asks
+  decided_method (Password password) x asks = decided_claim (Password password) (proof_in m config known.session user service (Password password)) x asks
+  decided_method (PasswordChange old new) x asks = decided_claim (PasswordChange old new) (proof_in m config known.session user service (PasswordChange old new)) x asks
+  decided_method (PublicKey algorithm key signature) x asks = decided_claim (PublicKey algorithm key signature) (proof_in m config known.session user service (PublicKey algorithm key signature)) x asks
+  decided_method (PublicKeyQuery algorithm key) x asks = query_unsuccessful algorithm key
+  decided_method (OtherMethod name fields) x asks = decided_claim (OtherMethod name fields) (proof_in m config known.session user service (OtherMethod name fields)) x asks
+
+  module _ (method : MethodData) where
+    -- by whether the server has the service
+    in_service : (has : Bool) (x : QuestionData) → asked_in (cond has (method_step m config known user service method) (AtOnce (fails fault.Service))) ≡ Some x
+        → asked_in (method_step m config known user service method) ≡ Some x
+        × (settled d (cond has (method_step m config known user service method) (AtOnce (fails fault.Service))) ≡ settled d (method_step m config known user service method))
+    in_service true x asks = (asks, refl)
+    in_service false x asks = absurd cc
+
+    pub asked_request : (x : QuestionData) → asked_in (request_step m config known user service method) ≡ Some x
+        → settled d (request_step m config known user service method) ≡ claimed_reply config known user service method (is_yes (decided d x))
+    unfolding request_step
+    asked_request x asks = let two = in_service (is_in config.services service) x asks in two.1 ∙ asked_method method x two.0
+
+    pub decided_request : (x : QuestionData) → asked_in (request_step m config known user service method) ≡ Some x
+        → is_successful m d config known user service method ≡ (claims method && is_yes (decided d x))
+    unfolding request_step
+    decided_request x asks = let two = in_service (is_in config.services service) x asks in decided_method method x two.0
+
+    vain_service : (has : Bool) → asked_in (cond has (method_step m config known user service method) (AtOnce (fails fault.Service))) ≡ None
+        → IsOngoing (settled d (cond has (method_step m config known user service method) (AtOnce (fails fault.Service)))).end → is_successful m d config known user service method ≡ false
+    vain_service true calm goes_on = vain_method method calm
+    vain_service false calm (inl shut) = absurd cc
+    vain_service false calm (inr (a, shut)) = absurd cc
+
+    pub vain_request : asked_in (request_step m config known user service method) ≡ None → IsOngoing (settled d (request_step m config known user service method)).end
+        → is_successful m d config known user service method ≡ false
+    unfolding request_step
+    vain_request calm goes_on = vain_service (is_in config.services service) calm goes_on
+
+    module _ (found : Option (Bor (List ℕ))) (e : FindsService config service found) where
+      -- the answer to a request of a service that the server doesn't have
+      pub reply_elsewhere : found ≡ None → fails fault.Service ≡ settled d (request_step m config known user service method)
+      unfolding request_step
+      reply_elsewhere is =
+          let off : is_in config.services service ≡ false = missed (is_in config.services service) service found e is in
+          rw off refl
+
+      -- and of one that it has, which asks nothing
+      pub reply_vain : (own : Bor (List ℕ)) → found ≡ Some own → asked_in (request_step m config known user service method) ≡ None
+          → more_reply config known (UserauthFailure config.methods false) ≡ settled d (request_step m config known user service method)
+      unfolding request_step
+      reply_vain own is = by (is_in config.services service) (had (is_in config.services service) service found own e is).0
+        where
+          by : (has : Bool) → has ≡ true → asked_in (cond has (method_step m config known user service method) (AtOnce (fails fault.Service))) ≡ None
+              → more_reply config known (UserauthFailure config.methods false) ≡ settled d (cond has (method_step m config known user service method) (AtOnce (fails fault.Service)))
+          by true on calm = calm_method method calm
+          by false on calm = absurd cc
+
+-- what is asked of a request for a service: nothing of one that the server doesn't have
+module _ (m : SuiteData) (config : ConfigData) (known : Known) (user service : List ℕ) (method : MethodData) (found : Option (Bor (List ℕ))) (e : FindsService config service found) where
+  pub asks_elsewhere : found ≡ None → ◌≡◌ {A = Option QuestionData} None (asked_in (request_step m config known user service method))
+  unfolding request_step
+  asks_elsewhere is = rw (missed (is_in config.services service) service found e is) refl
+
+  pub asks_here : (own : Bor (List ℕ)) → found ≡ Some own → asked_in (method_step m config known user own.now method) ≡ asked_in (request_step m config known user service method)
+  unfolding request_step
+  asks_here own is = let both = had (is_in config.services service) service found own e is in rw (both.0, both.1) refl
 
 -- the answer to a request that ends nothing, as the last that is granted and before it
 pub more_last : (config : ConfigData) (known : Known) (x : MessageData) → nat_le config.tries known.request ≡ true → fails fault.TooManyTries ≡ more_reply config known x
@@ -140,31 +212,6 @@ more_last config known x last = rw last refl
 
 pub more_goes : (config : ConfigData) (known : Known) (x : MessageData) → nat_le config.tries known.request ≡ false → goes (written_message x ∷ []) ≡ more_reply config known x
 more_goes config known x more = rw more refl
-
--- a request that isn't a query is tried
-pub tried_method : (m : SuiteData) (d : DecisionsData) (config : ConfigData) (known : Known) (user service : List ℕ) (method : MethodData)
-    → ((algorithm key : List ℕ) → method ≡ PublicKeyQuery algorithm key → ⊥)
-    → method_reply m d config known user service method ≡ tried_reply config known user service method (is_successful m d config known user service method)
-tried_method m d config known user service NoMethod none = refl
-tried_method m d config known user service (Password password) none = refl
-tried_method m d config known user service (PasswordChange old new) none = refl
-tried_method m d config known user service (PublicKey algorithm key signature) none = refl
-tried_method m d config known user service (PublicKeyQuery algorithm key) none = absurd (none algorithm key refl)
-tried_method m d config known user service (OtherMethod name fields) none = refl
-
--- what is kept besides changes no answer to a query
-module _ (m : SuiteData) (d : DecisionsData) (config : ConfigData) (k other : Known) (completed : CompletedMethodsData) (same : other ≡ record k { completed = completed }) (user service algorithm key : List ℕ) where
-  pub query_refused : would_do m d config other user service algorithm key ≡ false
-      → more_reply config other (UserauthFailure config.methods false) ≡ more_reply config k (query_answer m d config k user service algorithm key)
-  query_refused off =
-      let none : would_do m d config k user service algorithm key ≡ false = ap (λ (x : Known). would_do m d config x user service algorithm key) (sym same) ∙ off in
-      ap (λ (x : Known). more_reply config x (UserauthFailure config.methods false)) same ∙ rw none refl
-
-  pub query_confirmed : (name : List ℕ) → name ≡ algorithm → would_do m d config other user service algorithm key ≡ true
-      → more_reply config other (UserauthPkOk name key) ≡ more_reply config k (query_answer m d config k user service algorithm key)
-  query_confirmed name e on =
-      let would : would_do m d config k user service algorithm key ≡ true = ap (λ (x : Known). would_do m d config x user service algorithm key) (sym same) ∙ on in
-      ap (λ (x : Known). more_reply config x (UserauthPkOk name key)) same ∙ rw (would, e) refl
 
 -- what is kept after a successful request
 module _ (config : ConfigData) (k mid other : Known) (user service : List ℕ) (method : MethodData)
@@ -186,24 +233,28 @@ module _ (config : ConfigData) (k mid other : Known) (user service : List ℕ) (
   successful_more none =
       ap (λ (x : Known). more_reply config x (UserauthFailure config.methods true)) successful_known ∙ sym (rw (successful_complete false none) refl)
 
--- a method of the code that is no query
-pub no_query : (x : message_method.Method) → ((algorithm key : Bor (List ℕ)) → x ≡ message_method.TheVariants.PublicKeyQuery algorithm key → ⊥)
-    → (algorithm key : List ℕ) → method_data x ≡ PublicKeyQuery algorithm key → ⊥
-no_query message_method.TheVariants.None other algorithm key e = absurd cc
-no_query (message_method.TheVariants.Password password) other algorithm key e = absurd cc
-no_query (message_method.TheVariants.PasswordChange old new) other algorithm key e = absurd cc
-no_query (message_method.TheVariants.PublicKey name blob signature) other algorithm key e = absurd cc
-no_query (message_method.TheVariants.PublicKeyQuery name blob) other algorithm key e = other name blob refl
-no_query (message_method.TheVariants.Other x) other algorithm key e = absurd cc
+-- a request that is kept and is no query
+abbrev NoQuery : Claim → Type 0
+NoQuery x = (algorithm : String Global) (blob : Vec ℕ) → x ≡ claim.Query algorithm blob → ⊥
 
--- a method of the code that has no signed key
-pub no_key : (x : message_method.Method) → ((algorithm key signature : Bor (List ℕ)) → x ≡ message_method.TheVariants.PublicKey algorithm key signature → ⊥) → key_of (method_data x) ≡ []
-no_key message_method.TheVariants.None other = refl
-no_key (message_method.TheVariants.Password password) other = refl
-no_key (message_method.TheVariants.PasswordChange old new) other = refl
-no_key (message_method.TheVariants.PublicKey name blob signature) other = absurd (other name blob signature refl)
-no_key (message_method.TheVariants.PublicKeyQuery name blob) other = refl
-no_key (message_method.TheVariants.Other x) other = refl
+pub claims_other : (x : Claim) → NoQuery x → claims (claim_method x) ≡ true
+claims_other claim.None other = refl
+claims_other (claim.Password password) other = refl
+claims_other (claim.Query algorithm blob) other = absurd (other algorithm blob refl)
+claims_other (claim.Key algorithm blob) other = refl
+
+pub named_other : (config : ConfigData) (known : Known) (x : Claim) → NoQuery x → FitsClaim config known (claim_method x) → HasName (claim_method x)
+named_other config known claim.None other fits = tt
+named_other config known (claim.Password password) other fits = tt
+named_other config known (claim.Query algorithm blob) other fits = absurd (other algorithm blob refl)
+named_other config known (claim.Key algorithm blob) other fits = fits
+
+pub claimed_other : (config : ConfigData) (known : Known) (user service : List ℕ) (x : Claim) → NoQuery x → (allowed : Bool)
+    → tried_reply config known user service (claim_method x) allowed ≡ claimed_reply config known user service (claim_method x) allowed
+claimed_other config known user service claim.None other allowed = refl
+claimed_other config known user service (claim.Password password) other allowed = refl
+claimed_other config known user service (claim.Query algorithm blob) other allowed = absurd (other algorithm blob refl)
+claimed_other config known user service (claim.Key algorithm blob) other allowed = refl
 
 -- no request by another method carries a key along, and none that wasn't successful
 pub unkeyed : (c : Carried) (method : MethodData) → key_of method ≡ [] → (successful : Bool) → tried_key c method successful ≡ c
@@ -223,13 +274,25 @@ module _ (old new : StateData) where
       → new ≡ record old { end = new.end; known = known; carried = carried; sending = new.sending }
   with_key known carried same e = with_end known e ∙ ap (λ (x : Carried). record old { end = new.end; known = known; carried = x; sending = new.sending }) same
 
-module _ (m : SuiteData) (d : DecisionsData) (config : ConfigData) (known : Known) (user service own : List ℕ) (method : MethodData) (same : own ≡ service) where
-  -- a query, which is never successful
-  pub query_tried : (algorithm key : List ℕ) → method ≡ PublicKeyQuery algorithm key
-      → tried_with user own (PublicKeyQuery algorithm key) false ≡ tried_with user service method (is_successful m d config known user service method)
-  unfolding proof_in
-  query_tried algorithm key query = rw (same, query) refl
+-- a key that is kept of a signed request
+pub key_kept : (config : ConfigData) (known : Known) (algorithm key signature : List ℕ) (c : Claim) → claim_method c ≡ PublicKey algorithm key [] → HasName (claim_method c) → KeepsMethod config known (PublicKey algorithm key signature) c
+key_kept config known algorithm key signature claim.None e named = absurd cc
+key_kept config known algorithm key signature (claim.Password password) e named = absurd cc
+key_kept config known algorithm key signature (claim.Query name blob) e named = absurd cc
+key_kept config known algorithm key signature (claim.Key name blob) e named =
+    let same : string_bytes name ≡ algorithm = cc in
+    let bytes : blob.items ≡ key = cc in
+    (signature, rw (same, bytes) refl, named)
 
-  -- and any other
-  pub other_tried : (successful : Bool) → is_successful m d config known user own method ≡ successful → tried_with user own method successful ≡ tried_with user service method (is_successful m d config known user service method)
-  other_tried successful is_so = let here : is_successful m d config known user service method ≡ successful = rw same at is_so in rw (same, here) refl
+-- what any other method asks: nothing
+module _ (m : SuiteData) (config : ConfigData) (known : Known) (user service : List ℕ) where
+  pub other_asks : (x : Method) → (x ≡ method.None → ⊥) → ((password : Bor (List ℕ)) → x ≡ method.Password password → ⊥)
+      → ((algorithm key signature : Bor (List ℕ)) → x ≡ method.PublicKey algorithm key signature → ⊥) → ((algorithm key : Bor (List ℕ)) → x ≡ method.PublicKeyQuery algorithm key → ⊥)
+      → ◌≡◌ {A = Option QuestionData} None (asked_in (method_step m config known user service (method_data x)))
+  unfolding proof_in
+  other_asks method.None a b e f = absurd (a refl)
+  other_asks (method.Password password) a b e f = absurd (b password refl)
+  other_asks (method.PasswordChange old new) a b e f = refl
+  other_asks (method.PublicKey name blob signature) a b e f = absurd (e name blob signature refl)
+  other_asks (method.PublicKeyQuery name blob) a b e f = absurd (f name blob refl)
+  other_asks (method.Other x) a b e f = refl

@@ -57,8 +57,8 @@ use Rattle.sshcore.specs.Sessions.{AcceptedBy, HasAccepted, IsSession}
 use Rattle.sshcore.specs.Standing.{Tied}
 use Rattle.sshcore.specs.Table.{disposition_by}
 use Rattle.sshcore.specs.Tries.{last_key, successful_keys_at, tried_at, tried_with}
-use Rattle.sshcore.specs.Signatures.{signature_by}
-use Rattle.sshcore.specs.Work.{answered_by, init_reply, making, reply_in, reply_reply, signed_by, signed_reply, trusted_by, userauth, work, told_by}
+use Rattle.sshcore.specs.Work.{making, reply_in, signed_by, signed_reply, userauth, told_by}
+use Rattle.sshcore.proofs.StepLemmas.{answered_by, init_reply, reply_reply, signature_by, trusted_by, work_is, worked}
 use Rattle.sshcore.proofs.IgnoredLimitLemmas.{always_allowed, exchange_heeded}
 use Rattle.sshcore.proofs.AuthenticatedLemmas.{auth_switched, authenticated, ends_tried, last_tied, none_refused}
 use Rattle.sshcore.proofs.LawsBelow.{Below}
@@ -122,8 +122,8 @@ failed_open : (f : Fault) → Failed f ≡ Open → ⊥
 failed_open f e = cc
 
 module _ (below : Below) (setup : Setup) where
-  exchange_switches : (known : Known) (c : MessageData) → (number_of c ≡ 30) ⊎ (number_of c ≡ 31) → (work setup known c).end ≡ Open → Switches (work setup known c).answers
-  unfolding work init_reply reply_reply
+  exchange_switches : (known : Known) (c : MessageData) → (number_of c ≡ 30) ⊎ (number_of c ≡ 31) → (worked setup known c).end ≡ Open → Switches (worked setup known c).answers
+  unfolding worked init_reply reply_reply
   exchange_switches known (KexdhInit e) two is_open = answered_switches setup.suite setup.decisions setup.config known (exchange_with setup.suite setup.role setup.config known.algorithms known.version known.kexinit (Ok (KexdhInit e)))
       (answer_with setup.suite setup.role setup.config known.algorithms (Ok (KexdhInit e))) is_open
   exchange_switches known (KexEcdhInit share) two is_open = answered_switches setup.suite setup.decisions setup.config known (exchange_with setup.suite setup.role setup.config known.algorithms known.version known.kexinit (Ok (KexEcdhInit share)))
@@ -137,7 +137,8 @@ module _ (below : Below) (setup : Setup) where
 
   read_switches : (known : Known) (payload : List ℕ) (r : Result MessageData MsgFault) → message_in known.shares payload ≡ r → (message_number payload ≡ 30) ⊎ (message_number payload ≡ 31)
       → (read_reply setup known (message_number payload) r).end ≡ Open → Switches (read_reply setup known (message_number payload) r).answers
-  read_switches known payload (Ok c) e two is_open = exchange_switches known c (numbered two) is_open
+  read_switches known payload (Ok c) e two is_open =
+      subst (λ (x : Reply). Switches x.answers) (sym (work_is setup known c)) (exchange_switches known c (numbered two) (subst (λ (x : Reply). x.end ≡ Open) (work_is setup known c) is_open))
     where
       numbered : (message_number payload ≡ 30) ⊎ (message_number payload ≡ 31) → (number_of c ≡ 30) ⊎ (number_of c ≡ 31)
       numbered (inl n) = inl (sym (below.numbers known.shares payload c e) ∙ n)

@@ -43,7 +43,7 @@ pub data Step (role : Side) (config : ConfigData) (before : Units) (payload : Li
 
 module _ (below : Below) (setup : Setup) where
   closes : (known : Known) (payload : List ℕ) (c : MessageData) → message_number payload ≡ 1 → number_of c ≡ 1 → EndsStrictly (message_number payload) (work setup known c).end
-  unfolding work
+  unfolding Rattle.sshcore.specs.Work.step
   closes known payload (Disconnect reason description language) is e = AsClosed is reason refl
   closes known payload _ is e = absurd (omega (arith, e))
 
@@ -107,7 +107,7 @@ module _ (below : Below) (setup : Setup) where
   -- at a KEXINIT with a marker, where another payload stood before
   late : (known : Known) (packet : ℕ) (payload : List ℕ) → message_number payload ≡ 20 → strict_towards setup.role setup.config.strict (offer_in payload) ≡ true → known.shares ≡ Mpint → known.first ≡ false
       → (disposition_reply setup known packet disposition.Reads payload).end ≡ Failed (fault.Strict (message_number payload))
-  unfolding disposition_reply work kexinit_reply
+  unfolding disposition_reply kexinit_reply Rattle.sshcore.specs.Work.step
   late known packet payload is s form not_first =
       let x = shown setup.role setup.config.strict payload s in
       let flag : strict_towards setup.role setup.config.strict (Some x.0) ≡ true = ap (λ o. strict_towards setup.role setup.config.strict o) (sym x.1) ∙ s in

@@ -24,9 +24,9 @@ use Rattle.sshcore.specs.KnownBefore.{Known, known_at, waits_at}
 use Rattle.sshcore.specs.EndpointParts.{ConfigData, DecisionsData, setup_with}
 use Rattle.sshcore.specs.Phases.{phase_at}
 use Rattle.sshcore.specs.Replies.{StaysOpen, disposition_at, disposition_reply, end_at, read_reply}
-use Rattle.sshcore.specs.Requests.{is_last_try, request_reply}
+use Rattle.sshcore.specs.Requests.{is_last_try}
 use Rattle.sshcore.specs.Table.{disposition_by}
-use Rattle.sshcore.specs.Work.{work}
+use Rattle.sshcore.proofs.StepLemmas.{request_reply, work_is, worked}
 use Rattle.sshcore.proofs.IgnoredLimitLemmas.{allowed_number}
 use Rattle.sshcore.proofs.AnswerLemmas.{Elsewhere, IsAnswered, Last, More, Succeeds, answered}
 use Rattle.sshcore.proofs.LawsBelow.{Below}
@@ -59,14 +59,14 @@ module _ (below : Below) (m : SuiteData) (d : DecisionsData) (config : ConfigDat
       by (Last last is) = absurd (let shut : Failed fault.TooManyTries ≡ Open = ap (λ (r : Reply). r.end) (sym is) ∙ is_open in cc (shut))
       by (More x refusal more is) = more
 
-  work_tries : (known : Known) (c : MessageData) → number_of c ≡ 50 → (work (setup_with m d Server config) known c).end ≡ Open → is_last_try config known ≡ false
-  unfolding work
+  work_tries : (known : Known) (c : MessageData) → number_of c ≡ 50 → (worked (setup_with m d Server config) known c).end ≡ Open → is_last_try config known ≡ false
+  unfolding worked
   work_tries known (UserauthRequest user service method) n is_open = request_tries known user service method is_open
   work_tries known _ n is_open = absurd (omega (arith, n))
 
   read_tries : (known : Known) (payload : List ℕ) (r : Result MessageData MsgFault) → message_in known.shares payload ≡ r → message_number payload ≡ 50
       → (read_reply (setup_with m d Server config) known (message_number payload) r).end ≡ Open → is_last_try config known ≡ false
-  read_tries known payload (Ok c) e is is_open = work_tries known c (sym (below.numbers known.shares payload c e) ∙ is) is_open
+  read_tries known payload (Ok c) e is is_open = work_tries known c (sym (below.numbers known.shares payload c e) ∙ is) (subst (λ (x : Reply). x.end ≡ Open) (work_is (setup_with m d Server config) known c) is_open)
   read_tries known payload (Err f) e is is_open = absurd cc
 
   disposition_tries : (known : Known) (packet : ℕ) (payload : List ℕ) (l : Disposition) → ReadsOrFails l → message_number payload ≡ 50

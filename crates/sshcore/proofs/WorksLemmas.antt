@@ -24,7 +24,7 @@ use Rattle.sshcore.specs.declared.end.Fault.{Fault}
 use Rattle.sshcore.specs.declared.phase_table.Disposition.TheVariants as disposition
 use Rattle.sshcore.specs.declared.phase_table.Phase.{Phase}
 use Rattle.sshcore.specs.declared.phase_table.Phase.TheVariants as phase
-use Rattle.sshcore.specs.Attempts.{failure_reply, pk_ok_reply, success_reply}
+use Rattle.sshcore.specs.Attempts.{failure_step, pk_ok_step, success_reply}
 use Rattle.sshcore.specs.Authenticating.{FitsMethod, confirmed_attempt, counted_request, failed_attempt, tried_key}
 use Rattle.sshcore.specs.Before.{wrong_guess}
 use Rattle.sshcore.specs.Brings.{Exchanges, Gives, IsOngoing, Leaves, Offers, StandsAt, Stays, Works, carried_after, received_counted, received_newkeys, received_one}
@@ -33,14 +33,15 @@ use Rattle.sshcore.specs.Exchanged.{ReceivesExchange}
 use Rattle.sshcore.specs.StateData.{StateData}
 use Rattle.sshcore.specs.KnownBefore.{Known}
 use Rattle.sshcore.specs.Output.{sending_from, sent_from}
-use Rattle.sshcore.specs.EndpointParts.{Setup, setup_with}
+use Rattle.sshcore.specs.EndpointParts.{Setup}
 use Rattle.sshcore.specs.Phases.{leaving, next_phase, past_exchange}
 use Rattle.sshcore.specs.Plan.{is_waiting, listed_by, listed_in}
-use Rattle.sshcore.specs.Requests.{is_successful, request_reply}
+use Rattle.sshcore.specs.Requests.{is_successful, request_step}
+use Rattle.sshcore.specs.Step.{settled}
 use Rattle.sshcore.specs.Tries.{tried_with}
 use Rattle.sshcore.specs.Standing.{LeavesNone, after_offer, after_payload}
 use Rattle.sshcore.specs.Table.{disposition_by, is_ignorable}
-use Rattle.sshcore.specs.Work.{accept_reply, init_reply, kexinit_reply, reply_reply, service_reply, work}
+use Rattle.sshcore.specs.Work.{accept_step, init_step, kexinit_reply, reply_step, service_reply, step, work}
 use Rattle.sshcore.proofs.AfterLemmas.{carried_number, carried_request, counted_number, failure_after, newkeys_after, pk_ok_after, received_number, request_after}
 use Rattle.sshcore.proofs.ReadsLemmas as table
 use Rattle.sshcore.proofs.ReadsLemmas.{IsAt, IsPlain, Reads, plain_number, reads}
@@ -152,7 +153,7 @@ module _ (setup : Setup) (old new : StateData) (payload before after : List ℕ)
       → new.carried ≡ old.carried
       → (IsOngoing new.end → StandsAt new phase.Exchange (wrong_guess setup.role setup.config.offer (Some peer)) (after_offer setup.suite setup.role setup.config old.known payload peer))
       → Works setup old new payload before after (work setup old.known c)
-  unfolding work
+  unfolding step
   kexinit_works peer is gives form keys moves =
       let at = at_kexinit setup.role old payload c has (ap number_of is) in
       by_reply (kexinit_reply setup.suite setup.role setup.config old.known peer) (ap (work setup old.known) is) (record {
@@ -175,21 +176,21 @@ module _ (setup : Setup) (old new : StateData) (payload before after : List ℕ)
             (rw (same, read, ← none) (h.stands goes_on));
       }
 
-  pub init_works : number_of c ≡ 30 → work setup old.known c ≡ init_reply setup.suite setup.decisions setup.role setup.config old.known c
-      → ReceivesExchange setup.suite Server setup.config old new before after c (init_reply setup.suite setup.decisions Server setup.config old.known c)
+  pub init_works : number_of c ≡ 30 → work setup old.known c ≡ settled setup.decisions (init_step setup.suite setup.role setup.config old.known c)
+      → ReceivesExchange setup.suite Server setup.config old new before after c (settled setup.decisions (init_step setup.suite Server setup.config old.known c))
       → Works setup old new payload before after (work setup old.known c)
   init_works number is h =
       let at = at_init setup.role old payload c has number in
-      by_reply (init_reply setup.suite setup.decisions Server setup.config old.known c) (is ∙ ap (λ (x : Side). init_reply setup.suite setup.decisions x setup.config old.known c) at.side_is)
-      (exchange_works Server 30 (init_reply setup.suite setup.decisions Server setup.config old.known c) number refl at h)
+      by_reply (settled setup.decisions (init_step setup.suite Server setup.config old.known c)) (is ∙ ap (λ (x : Side). settled setup.decisions (init_step setup.suite x setup.config old.known c)) at.side_is)
+      (exchange_works Server 30 (settled setup.decisions (init_step setup.suite Server setup.config old.known c)) number refl at h)
 
-  pub reply_works : (signature : List ℕ) → number_of c ≡ 31 → work setup old.known c ≡ reply_reply setup old.known c signature
-      → ReceivesExchange setup.suite Client setup.config old new before after c (reply_reply (setup_with setup.suite setup.decisions Client setup.config) old.known c signature)
+  pub reply_works : (signature : List ℕ) → number_of c ≡ 31 → work setup old.known c ≡ settled setup.decisions (reply_step setup.suite setup.role setup.config old.known c signature)
+      → ReceivesExchange setup.suite Client setup.config old new before after c (settled setup.decisions (reply_step setup.suite Client setup.config old.known c signature))
       → Works setup old new payload before after (work setup old.known c)
   reply_works signature number is h =
       let at = at_reply setup.role old payload c has number in
-      by_reply (reply_reply (setup_with setup.suite setup.decisions Client setup.config) old.known c signature) (is ∙ ap (λ (x : Side). reply_reply (setup_with setup.suite setup.decisions x setup.config) old.known c signature) at.side_is)
-      (exchange_works Client 31 (reply_reply (setup_with setup.suite setup.decisions Client setup.config) old.known c signature) number refl at h)
+      by_reply (settled setup.decisions (reply_step setup.suite Client setup.config old.known c signature)) (is ∙ ap (λ (x : Side). settled setup.decisions (reply_step setup.suite x setup.config old.known c signature)) at.side_is)
+      (exchange_works Client 31 (settled setup.decisions (reply_step setup.suite Client setup.config old.known c signature)) number refl at h)
 
   -- a message that leaves a phase after the exchange
   leaves_works : (side : Side) (p q : Phase) (n : ℕ) (k : Known) (r : Reply) → number_of c ≡ n → leaving side p ≡ n → past_exchange p ≡ true → next_phase p ≡ q
@@ -224,25 +225,25 @@ module _ (setup : Setup) (old new : StateData) (payload before after : List ℕ)
       → new.carried ≡ old.carried
       → (IsOngoing new.end → StandsAt new phase.Auth old.guess (received_one old.known))
       → Works setup old new payload before after (work setup old.known c)
-  unfolding work
+  unfolding step
   request_works service is gives keys stands =
       by_reply (service_reply setup.config service) (ap (work setup old.known) is)
       (leaves_works Server phase.Service phase.Auth 5 (received_one old.known) (service_reply setup.config service) (ap number_of is) refl refl refl
       (at_request setup.role old payload c has (ap number_of is)) (received_as 5 (ap number_of is) (λ q. omega arith) (λ q. omega arith) (λ q. omega arith) (λ q. omega arith) refl) gives (λ _. keys ∙ carried_as 5 (ap number_of is) (λ q. omega arith)) stands)
 
   pub accept_works : (service : List ℕ) → c ≡ ServiceAccept service
-      → ((strict : Bool) (next : KeysData) → Gives setup.suite setup.config.seed strict next old new before after (accept_reply setup.suite setup.decisions old.known service))
+      → ((strict : Bool) (next : KeysData) → Gives setup.suite setup.config.seed strict next old new before after (settled setup.decisions (accept_step setup.suite old.known service)))
       → new.carried ≡ old.carried
       → (IsOngoing new.end → StandsAt new phase.Auth old.guess (received_one old.known))
       → Works setup old new payload before after (work setup old.known c)
-  unfolding work
+  unfolding step
   accept_works service is gives keys stands =
-      by_reply (accept_reply setup.suite setup.decisions old.known service) (ap (work setup old.known) is)
-      (leaves_works Client phase.Service phase.Auth 6 (received_one old.known) (accept_reply setup.suite setup.decisions old.known service) (ap number_of is) refl refl refl
+      by_reply (settled setup.decisions (accept_step setup.suite old.known service)) (ap (work setup old.known) is)
+      (leaves_works Client phase.Service phase.Auth 6 (received_one old.known) (settled setup.decisions (accept_step setup.suite old.known service)) (ap number_of is) refl refl refl
       (at_accept setup.role old payload c has (ap number_of is)) (received_as 6 (ap number_of is) (λ q. omega arith) (λ q. omega arith) (λ q. omega arith) (λ q. omega arith) refl) gives (λ _. keys ∙ carried_as 6 (ap number_of is) (λ q. omega arith)) stands)
 
   pub user_request_works : (user service : List ℕ) (method : MethodData) → c ≡ UserauthRequest user service method
-      → ((strict : Bool) (next : KeysData) → Gives setup.suite setup.config.seed strict next old new before after (request_reply setup.suite setup.decisions setup.config old.known user service method))
+      → ((strict : Bool) (next : KeysData) → Gives setup.suite setup.config.seed strict next old new before after (settled setup.decisions (request_step setup.suite setup.config old.known user service method)))
       → (IsOngoing new.end → new ≡ record old {
         end = new.end;
         known = counted_request old.known (tried_with user service method (is_successful setup.suite setup.decisions setup.config old.known user service method));
@@ -250,11 +251,11 @@ module _ (setup : Setup) (old new : StateData) (payload before after : List ℕ)
         sending = new.sending;
       })
       → Works setup old new payload before after (work setup old.known c)
-  unfolding work
+  unfolding step
   user_request_works user service method is gives stays =
       let at = at_user_request setup.role old payload c has (ap number_of is) in
-      by_reply (request_reply setup.suite setup.decisions setup.config old.known user service method) (ap (work setup old.known) is)
-      (leaves_works Server phase.Auth phase.Auth 50 (counted_request old.known (tried_with user service method (is_successful setup.suite setup.decisions setup.config old.known user service method))) (request_reply setup.suite setup.decisions setup.config old.known user service method) (ap number_of is) refl refl refl
+      by_reply (settled setup.decisions (request_step setup.suite setup.config old.known user service method)) (ap (work setup old.known) is)
+      (leaves_works Server phase.Auth phase.Auth 50 (counted_request old.known (tried_with user service method (is_successful setup.suite setup.decisions setup.config old.known user service method))) (settled setup.decisions (request_step setup.suite setup.config old.known user service method)) (ap number_of is) refl refl refl
       at (request_after setup.suite setup.decisions setup.config old.known payload user service method (has.kind_is ∙ ap number_of is) (has.requests user service method is)) gives (λ goes_on. ap (λ (k : StateData). k.carried) (stays goes_on)
       ∙ sym (carried_request setup.suite setup.decisions setup.config old.known payload old.carried user service method (has.kind_is ∙ ap number_of is) (has.requests user service method is)))
       (λ goes_on. record {
@@ -267,7 +268,7 @@ module _ (setup : Setup) (old new : StateData) (payload before after : List ℕ)
       → ((strict : Bool) (next : KeysData) → Gives setup.suite setup.config.seed strict next old new before after (success_reply old.known))
       → (IsOngoing new.end → new ≡ record old { end = new.end; known = received_one old.known })
       → Works setup old new payload before after (work setup old.known c)
-  unfolding work
+  unfolding step
   success_works is gives stays =
       let at = at_success setup.role old payload c has (ap number_of is) in
       by_reply (success_reply old.known) (ap (work setup old.known) is)
@@ -280,15 +281,15 @@ module _ (setup : Setup) (old new : StateData) (payload before after : List ℕ)
       }))
 
   pub failure_works : (listed : List (List ℕ)) (partial : Bool) → c ≡ UserauthFailure listed partial
-      → ((strict : Bool) (next : KeysData) → Gives setup.suite setup.config.seed strict next old new before after (failure_reply setup.suite setup.decisions old.known listed))
+      → ((strict : Bool) (next : KeysData) → Gives setup.suite setup.config.seed strict next old new before after (settled setup.decisions (failure_step setup.suite old.known listed)))
       → new ≡ record old { end = new.end; known = failed_attempt old.known listed; sending = new.sending }
       → Works setup old new payload before after (work setup old.known c)
-  unfolding work
+  unfolding step
   failure_works listed partial is gives stays =
       let at = at_failure setup.role old payload c has (ap number_of is) in
       let none : old.guess ≡ false = at.none_due in
       let number : message_number payload ≡ 51 = has.kind_is ∙ ap number_of is in
-      by_reply (failure_reply setup.suite setup.decisions old.known listed) (ap (work setup old.known) is) (record {
+      by_reply (settled setup.decisions (failure_step setup.suite old.known listed)) (ap (work setup old.known) is) (record {
         gives = gives _ _;
         moves = λ goes_on. Stays none (subst (λ (n : ℕ). LeavesNone setup.role n) (sym number) (table.late_leaves setup.role 51 (omega arith)))
             (ap (λ (k : StateData). k.carried) stays ∙ carried_as 51 (ap number_of is) (λ q. omega arith))
@@ -300,15 +301,15 @@ module _ (setup : Setup) (old new : StateData) (payload before after : List ℕ)
       })
 
   pub pk_ok_works : (algorithm key : List ℕ) → c ≡ UserauthPkOk algorithm key
-      → ((strict : Bool) (next : KeysData) → Gives setup.suite setup.config.seed strict next old new before after (pk_ok_reply setup.suite setup.decisions old.known algorithm key))
+      → ((strict : Bool) (next : KeysData) → Gives setup.suite setup.config.seed strict next old new before after (settled setup.decisions (pk_ok_step setup.suite old.known algorithm key)))
       → (IsOngoing new.end → new ≡ record old { end = new.end; known = confirmed_attempt old.known; sending = new.sending })
       → Works setup old new payload before after (work setup old.known c)
-  unfolding work
+  unfolding step
   pk_ok_works algorithm key is gives stays =
       let at = at_confirmation setup.role old payload c has (ap number_of is) in
       let none : old.guess ≡ false = at.none_due in
       let number : message_number payload ≡ 60 = has.kind_is ∙ ap number_of is in
-      by_reply (pk_ok_reply setup.suite setup.decisions old.known algorithm key) (ap (work setup old.known) is) (record {
+      by_reply (settled setup.decisions (pk_ok_step setup.suite old.known algorithm key)) (ap (work setup old.known) is) (record {
         gives = gives _ _;
         moves = λ goes_on. Stays none (subst (λ (n : ℕ). LeavesNone setup.role n) (sym number) (table.late_leaves setup.role 60 (omega arith)))
             (ap (λ (k : StateData). k.carried) (stays goes_on) ∙ carried_as 60 (ap number_of is) (λ q. omega arith))
@@ -334,7 +335,7 @@ fits_method (OtherMethod name fields) short = tt
 module _ (setup : Setup) (old new : StateData) (payload before : List ℕ) (c : MessageData) (has : HasPlace setup.role old payload c) where
   pub disconnect_works : (reason : ℕ) (description language : List ℕ) → c ≡ Disconnect reason description language → new.end ≡ Closed reason → new.sending ≡ old.sending
       → Works setup old new payload before before (work setup old.known c)
-  unfolding work
+  unfolding step
   disconnect_works reason description language is ends sends =
       by_reply setup old new payload before before c has (record { answers = []; end = Closed reason }) (ap (work setup old.known) is) (record {
         gives = silent setup.suite setup.config.seed old.known.strict _ old new before (Closed reason) ends sends;
@@ -343,7 +344,7 @@ module _ (setup : Setup) (old new : StateData) (payload before : List ℕ) (c : 
 
   pub newkeys_works : c ≡ NewKeys → old.end ≡ Open → new ≡ record old { phase = phase.Service; known = received_newkeys setup.config old.known }
       → Works setup old new payload before before (work setup old.known c)
-  unfolding work
+  unfolding step
   newkeys_works is stays next =
       let at = at_newkeys setup.role old payload c has (ap number_of is) in
       let none : old.guess ≡ false = at.none_due in
@@ -377,20 +378,20 @@ module _ (setup : Setup) (old new : StateData) (payload before : List ℕ) (c : 
 
 -- what the messages of the exchange are answered
 module _ (setup : Setup) (known : Known) (c : MessageData) where
-  pub kexdh_init : (e : List ℕ) → c ≡ KexdhInit e → work setup known c ≡ init_reply setup.suite setup.decisions setup.role setup.config known c
-  unfolding work
+  pub kexdh_init : (e : List ℕ) → c ≡ KexdhInit e → work setup known c ≡ settled setup.decisions (init_step setup.suite setup.role setup.config known c)
+  unfolding step
   kexdh_init e is = rw is refl
 
-  pub kex_ecdh_init : (share : List ℕ) → c ≡ KexEcdhInit share → work setup known c ≡ init_reply setup.suite setup.decisions setup.role setup.config known c
-  unfolding work
+  pub kex_ecdh_init : (share : List ℕ) → c ≡ KexEcdhInit share → work setup known c ≡ settled setup.decisions (init_step setup.suite setup.role setup.config known c)
+  unfolding step
   kex_ecdh_init share is = rw is refl
 
-  pub kexdh_reply : (host_key f signature : List ℕ) → c ≡ KexdhReply host_key f signature → work setup known c ≡ reply_reply setup known c signature
-  unfolding work
+  pub kexdh_reply : (host_key f signature : List ℕ) → c ≡ KexdhReply host_key f signature → work setup known c ≡ settled setup.decisions (reply_step setup.suite setup.role setup.config known c signature)
+  unfolding step
   kexdh_reply host_key f signature is = rw is refl
 
-  pub kex_ecdh_reply : (host_key share signature : List ℕ) → c ≡ KexEcdhReply host_key share signature → work setup known c ≡ reply_reply setup known c signature
-  unfolding work
+  pub kex_ecdh_reply : (host_key share signature : List ℕ) → c ≡ KexEcdhReply host_key share signature → work setup known c ≡ settled setup.decisions (reply_step setup.suite setup.role setup.config known c signature)
+  unfolding step
   kex_ecdh_reply host_key share signature is = rw is refl
 
 -- every other message is read and ignored
@@ -416,7 +417,7 @@ pub record IsNone (x : Message) : Type 0 where
 
 module _ (setup : Setup) (known : Known) where
   pub ignores : (x : Message) → IsNone x → IsIgnored setup known (message_data x)
-  unfolding work
+  unfolding step
   ignores (message.Disconnect reason description language) h = absurd (h.disconnect reason description language refl)
   ignores (message.ServiceRequest service) h = absurd (h.request service refl)
   ignores (message.ServiceAccept service) h = absurd (h.accept service refl)

@@ -6,7 +6,8 @@ use Rattle.sshpacket.specs.Places.{flat_places}
 use Rattle.sshpacket.specs.Stream.{Units}
 use Rattle.sshcore.specs.EndpointParts.{DecisionsData, Setup}
 use Rattle.sshcore.specs.KnownBefore.{known_at}
-use Rattle.sshcore.specs.Questions.{AnswerData, HostKeyQuestion, QuestionData, SignatureQuestion, UserQuestion, decided, disposition_question, taken}
+use Rattle.sshcore.specs.QuestionAt.{disposition_question}
+use Rattle.sshcore.specs.Questions.{AnswerData, HostKeyQuestion, QuestionData, SignatureQuestion, UserQuestion, decided, taken}
 use Rattle.sshcore.specs.Replies.{disposition_at}
 
 -- what a payload asks after those before it
@@ -27,7 +28,7 @@ questions_at setup version before = flat_places (λ b payload. asked (question_a
 -- one, and no second one is on a host key.
 abbrev pub ComesLater : QuestionData → QuestionData → Type 0
 ComesLater (HostKeyQuestion algorithm blob) (HostKeyQuestion other_algorithm other_blob) = ⊥
-ComesLater (UserQuestion number user service proof) (UserQuestion other_number other_user other_service other_proof) = number < other_number
+ComesLater (UserQuestion number user service proof signed) (UserQuestion other_number other_user other_service other_proof other_signed) = number < other_number
 ComesLater (SignatureQuestion number algorithm blob input) (SignatureQuestion other_number other_algorithm other_blob other_input) = other_number < number
 ComesLater one other = ⊤
 

@@ -4,18 +4,16 @@ use Rattle.std.specs.Prelude.{ℕ, List, Option}
 use Rattle.sshneg.specs.declared.side.Side.{Side}
 use Rattle.sshpacket.specs.Suite.{SuiteData}
 use Rattle.sshcore.specs.declared.input.Input.{Input}
-use Rattle.sshcore.specs.declared.kex_prepared.Prepared.{Prepared}
+use Rattle.sshcore.specs.declared.pending.Pending.{Pending}
 use Rattle.sshcore.specs.declared.state.State.{State}
 use Rattle.sshcore.specs.EndpointParts.{ConfigData, DecisionsData, Setup, setup_with}
 use Rattle.sshcore.specs.Questions.{QuestionData}
 
--- A packet that was read and isn't answered yet: its sequence number, its payload, what it asks, and what is prepared of a server's
--- answer to it, which no layer above opens.
+-- A packet that was read and isn't answered yet: its payload, what it asks, and what its answer needs, which no layer above opens.
 pub record WaitingData : Type 0 where
-  pub packet : ℕ
   pub payload : List ℕ
   pub question : QuestionData
-  pub prepared : Option Prepared
+  pub pending : Pending
 
 -- what contracts see of an asking endpoint: its role, config and suite, what it keeps, which no layer above opens, and the packet that
 -- waits for its answer, if one does

@@ -1,12 +1,16 @@
 -- What an endpoint does in authentication: what it keeps after a request and after a FAILURE, and what fits its messages.
 
 use Rattle.std.specs.Prelude.{◌≡◌, ◌==◌, ◌||◌, ℕ, ◌+◌, ◌≤◌, Bool, true, false, if◌then◌else◌, List, [], length}
+use Rattle.sshwire.specs.TypeReadings.{is_name}
 use Rattle.sshwire.specs.declared.limits.TheConstants.{NAME_LIMIT, PAYLOAD_LIMIT}
 use Rattle.sshmsg.specs.declared.numbers.TheConstants.{SSH_MSG_USERAUTH_PK_OK, SSH_MSG_USERAUTH_REQUEST, SSH_MSG_USERAUTH_SUCCESS}
-use Rattle.sshmsg.specs.MessageData.{MethodData, PublicKey, method_name}
+use Rattle.sshmsg.specs.MessageData.{MethodData, PublicKey, PublicKeyQuery, method_name}
 use Rattle.sshmsg.specs.Lengths.{method_length}
-use Rattle.sshpacket.specs.declared.limits.TheConstants.{PACKET_LIMIT}
+use Rattle.sshpacket.specs.declared.limits.TheConstants.{BLOB_LIMIT, PACKET_LIMIT}
 use Rattle.sshcore.specs.declared.config_parts.TheConstants.{USER_LIMIT}
+use Rattle.sshcore.specs.EndData.{Reply}
+use Rattle.sshcore.specs.EndpointParts.{ConfigData}
+use Rattle.sshcore.specs.Requests.{is_last_try, query_reply, tried_reply}
 use Rattle.sshcore.specs.StateData.{Carried}
 use Rattle.sshcore.specs.KnownBefore.{Known}
 use Rattle.sshcore.specs.Plan.{confirmed, next_after}
@@ -33,6 +37,26 @@ confirmed_attempt known = record known { left = confirmed known.left; first = fa
 -- what is known after a FAILURE that lists these methods (RFC 4252 section 5.1)
 abbrev pub failed_attempt : Known → List (List ℕ) → Known
 failed_attempt known listed = record known { left = next_after listed known.left; first = false }
+
+-- a request by this method claims something, if it is no query
+abbrev pub claims : MethodData → Bool
+claims (PublicKeyQuery algorithm key) = false
+claims _ = true
+
+-- what a request is answered once it is decided whether what it claims is accepted: a query as one, any other as it was tried
+abbrev pub claimed_reply : ConfigData → Known → List ℕ → List ℕ → MethodData → Bool → Reply
+claimed_reply config known user service (PublicKeyQuery algorithm key) allowed = query_reply config algorithm key allowed
+claimed_reply config known user service method allowed = tried_reply config known user service method allowed
+
+-- the algorithm of a signed request is a name
+abbrev pub HasName : MethodData → Type 0
+HasName (PublicKey algorithm key signature) = is_name algorithm ≡ true
+HasName _ = Unit {0}
+
+-- a query that is answered isn't the last try, and its key is short; the algorithm of a signed request is a name
+abbrev pub FitsClaim : ConfigData → Known → MethodData → Type 0
+FitsClaim config known (PublicKeyQuery algorithm key) = (is_last_try config known ≡ false) × (length algorithm ≤ NAME_LIMIT) × (length key ≤ BLOB_LIMIT)
+FitsClaim config known method = HasName method
 
 -- key and signature of a signed request that was read are no longer than a packet
 abbrev pub FitsMethod : MethodData → Type 0

@@ -9,7 +9,8 @@ use Rattle.sshcore.specs.AskingData.{AskingData, WaitingData, asking_setup}
 use Rattle.sshcore.specs.EndData.{Open}
 use Rattle.sshcore.specs.EndpointParts.{ConfigData, DecisionsData}
 use Rattle.sshcore.specs.Paused.{IsResumed, PausedAfter, PausedData, asked_paused}
-use Rattle.sshcore.specs.Questions.{AnswerData, QuestionData, question_at, taken}
+use Rattle.sshcore.specs.QuestionAt.{question_at}
+use Rattle.sshcore.specs.Questions.{AnswerData, QuestionData, taken}
 use Rattle.sshcore.specs.StateData.{state_data}
 
 -- what an endpoint asks is what the packet asks that waits, as `question` promises

@@ -1,6 +1,6 @@
 -- What an endpoint does at the peer's exchange message (RFC 4253 section 8).
 
-use Rattle.std.specs.Prelude.{◌≡◌, ℕ, ◌≤◌, Bool, true, false, List, ◌++◌, length, Option, None, Some, Ok}
+use Rattle.std.specs.Prelude.{◌≡◌, ℕ, Bool, true, false, List, ◌++◌, None, Ok}
 use Rattle.sshmsg.specs.MessageData.{MessageData, NewKeys, ServiceRequest}
 use Rattle.sshmsg.specs.Written.{written_message}
 use Rattle.sshneg.specs.declared.side.Side.{Side}
@@ -9,7 +9,6 @@ use Rattle.sshneg.specs.ExchangeEnd.{client_of, exchange_hash, server_of}
 use Rattle.sshneg.specs.Fields.{AlgorithmsData}
 use Rattle.sshneg.specs.Markers.{other}
 use Rattle.sshpacket.specs.KeysData.{KeysData}
-use Rattle.sshpacket.specs.declared.limits.TheConstants.{DIGEST_LIMIT}
 use Rattle.sshpacket.specs.Suite.{ResponseData, SuiteData}
 use Rattle.sshcore.specs.declared.end.Fault.TheVariants as fault
 use Rattle.sshcore.specs.declared.phase_table.Phase.TheVariants as phase
@@ -18,14 +17,12 @@ use Rattle.sshcore.specs.Chosen.{cipher_of, mac_of}
 use Rattle.sshcore.specs.EndData.{Reply, fails}
 use Rattle.sshcore.specs.Exchange.{exchange_with, keys_by, own_kexinit, secret_of}
 use Rattle.sshcore.specs.Directions.{spelled_by}
-use Rattle.sshcore.specs.History.{AllFit, FitsPacket}
+use Rattle.sshcore.specs.History.{AllFit}
 use Rattle.sshcore.specs.StateData.{StateData, with_exchange}
 use Rattle.sshcore.specs.Output.{Sending, sending_from, sent_from, with_newkeys, with_packet}
-use Rattle.sshcore.specs.Work.{reply_in, told_by, userauth}
+use Rattle.sshcore.specs.Work.{told_by, userauth}
 use Rattle.sshcore.specs.KnownBefore.{Known}
-use Rattle.sshcore.specs.EndpointParts.{ConfigData, DecisionsData}
-use Rattle.sshcore.specs.Signatures.{signature_by}
-use Rattle.sshcore.specs.declared.kex_exchange.Signed.{Signed}
+use Rattle.sshcore.specs.EndpointParts.{ConfigData}
 use Rattle.sshcore.specs.Phases.{past_exchange, past_kexinit}
 
 -- the form of shares is that of the method, once there is one; and before the exchange nothing is sealed
@@ -90,23 +87,6 @@ server_shares m config known share answer = record {
   server_share = answer.share;
   shared = answer.shared;
 }
-
--- The exchange hash of a server that has answered so, its host key, and the message with its signature.
-pub record IsSigned (m : SuiteData) (d : DecisionsData) (role : Side) (config : ConfigData) (known : Known) (share : List ℕ) (answer : ResponseData) (hash host_key reply : List ℕ) : Type 0 where
-  pub hash_is : hash ≡ exchange_hash m known.algorithms.kex (exchanged role config known (server_shares m config known share answer))
-  pub short : length hash ≤ DIGEST_LIMIT
-  pub host_key_is : host_key ≡ (server_shares m config known share answer).host_key
-  pub signature : List ℕ
-  pub signed : signature_by m d 0 known.algorithms.host_key (secret_of config.host_keys known.algorithms.host_key) hash ≡ Some signature
-  pub reply_is : reply ≡ written_message (reply_in (m.share_form known.algorithms.kex) (server_shares m config known share answer).host_key answer.share signature)
-  pub fits : FitsPacket reply
-
--- What came of signing: that, or no signature was made.
-abbrev pub Signs : SuiteData → DecisionsData → Side → ConfigData → Known → List ℕ → ResponseData → Option Signed → Type 0
-Signs m d role config known share answer None =
-    signature_by m d 0 known.algorithms.host_key (secret_of config.host_keys known.algorithms.host_key)
-    (exchange_hash m known.algorithms.kex (exchanged role config known (server_shares m config known share answer))) ≡ None
-Signs m d role config known share answer (Some s) = IsSigned m d role config known share answer s.hash.items s.host_key.items s.reply.items
 
 -- what is kept after an exchange of this host key, shared secret and hash, with these packets sent
 pub record StandsAfter (m : SuiteData) (role : Side) (config : ConfigData) (old new : StateData) (host_key shared hash : List ℕ) (o : Sending) : Type 0 where

@@ -41,6 +41,8 @@ pub mod StateData
 pub mod Shown
 pub mod Brings
 pub mod Questions
+pub mod Step
+pub mod QuestionAt
 pub mod AskedQuestions
 pub mod QuestionsView
 pub mod Negotiated
@@ -51,6 +53,7 @@ pub mod ReceivesLines
 pub mod EndpointData
 pub mod Endpoints
 pub mod Prepared
+pub mod Judging
 pub mod AskingData
 pub mod WaitingView
 pub mod Keeping

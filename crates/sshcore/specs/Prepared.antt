@@ -1,27 +1,32 @@
--- What a server has prepared of its answer to a client's share, while a packet waits for the signature.
+-- What a server has prepared of its answer to a client's share: all but the signature.
 
-use Rattle.std.specs.Prelude.{◌≡◌, ℕ, List, Option, None, Some}
-use Rattle.sshpacket.specs.Suite.{ResponseData, SuiteData, response_data}
-use Rattle.sshcore.specs.declared.kex_prepared.Hashed.{Hashed}
-use Rattle.sshcore.specs.declared.kex_prepared.Prepared.{Prepared}
+use Rattle.std.specs.Prelude.{◌≡◌, ◌≤◌, ℕ, List, length, Option, None, Some}
+use Rattle.sshneg.specs.declared.side.Side.{Side}
+use Rattle.sshneg.specs.ExchangeEnd.{exchange_hash}
+use Rattle.sshpacket.specs.declared.limits.TheConstants.{BLOB_LIMIT, DIGEST_LIMIT, SHARE_LIMIT}
+use Rattle.sshpacket.specs.Suite.{FitsShare, SuiteData, response_data}
+use Rattle.sshcore.specs.declared.pending.Prepared.{Prepared}
+use Rattle.sshcore.specs.EndpointParts.{ConfigData}
+use Rattle.sshcore.specs.Exchange.{secret_of}
+use Rattle.sshcore.specs.Exchanged.{exchanged, server_shares}
+use Rattle.sshcore.specs.KnownBefore.{Known}
 
--- the server's share and the shared secret, where the client's share isn't refused
-abbrev pub response_of : Option Hashed → Option ResponseData
-response_of None = None
-response_of (Some h) = Some (response_data h.response)
+-- it fits the messages that are sent: the share has the method's form, and all is short
+pub record FitsPrepared (m : SuiteData) (known : Known) (p : Prepared) : Type 0 where
+  pub share : FitsShare (m.share_form known.algorithms.kex) p.response.share.items
+  pub shared : length p.response.shared.items ≤ SHARE_LIMIT
+  pub host_key : length p.host_key.items ≤ BLOB_LIMIT
+  pub hash : length p.hash.items ≤ DIGEST_LIMIT
 
--- the hash is that of the text
-abbrev pub IsHash : SuiteData → List ℕ → Option Hashed → Type 0
-IsHash m kex None = Unit {0}
-IsHash m kex (Some h) = h.hash.items ≡ m.digest kex h.text.items
+-- It is what a server answers to this share, but for the signature: what the suite answers, the server's host key, and the exchange hash
+-- (RFC 4253 section 8).
+pub record IsPrepared (m : SuiteData) (role : Side) (config : ConfigData) (known : Known) (share : List ℕ) (p : Prepared) : Type 0 where
+  pub response : m.respond known.algorithms.kex config.random share ≡ Some (response_data p.response)
+  pub host_key : p.host_key.items ≡ m.blob known.algorithms.host_key (secret_of config.host_keys known.algorithms.host_key)
+  pub hash : p.hash.items ≡ exchange_hash m known.algorithms.kex (exchanged role config known (server_shares m config known share (response_data p.response)))
+  pub fits : FitsPrepared m known p
 
--- these are the suite's answers, with these random bytes
-pub record IsAnswer (m : SuiteData) (random : List ℕ) (p : Prepared) : Type 0 where
-  pub response : response_of p.hashed ≡ m.respond p.kex.items random p.share.items
-  pub hash : IsHash m p.kex.items p.hashed
-
--- where something is prepared of a server's answer to a client's share, it is what the suite answers: its share and the shared secret, and
--- the hash of a text (RFC 4253 section 8)
-abbrev pub IsPrepared : SuiteData → List ℕ → Option Prepared → Type 0
-IsPrepared m random None = Unit {0}
-IsPrepared m random (Some p) = IsAnswer m random p
+-- what a server has prepared of its answer to a share, or that there is no shared secret
+abbrev pub IsPreparedBy : SuiteData → Side → ConfigData → Known → List ℕ → Option Prepared → Type 0
+IsPreparedBy m role config known share None = m.respond known.algorithms.kex config.random share ≡ None
+IsPreparedBy m role config known share (Some p) = IsPrepared m role config known share p

@@ -17,7 +17,7 @@ use Rattle.sshcore.specs.AskingData.{WaitingData}
 use Rattle.sshcore.specs.EndData.{Open}
 use Rattle.sshcore.specs.EndpointParts.{UserKeyData}
 use Rattle.sshcore.specs.Paused.{PausedData, paused_end}
-use Rattle.sshcore.specs.RecordData.{AuthenticationRecord, ExchangeRecord, OfLines, OfPackets, PacketRecord, ReaderRecord, RecordData}
+use Rattle.sshcore.specs.RecordData.{AuthenticationRecord, ExchangeRecord, OfLines, OfPackets, ReaderRecord, RecordData}
 use Rattle.sshcore.specs.RecordText.{FitsRecord, record_bytes}
 use Rattle.sshcore.specs.StateData.{completed_methods_data, state_data}
 
@@ -57,8 +57,8 @@ missing_by i None = wanted i
 missing_by i (Some w) = 0
 
 -- what a record has of a packet that waits for an answer: its sequence number and its payload
-abbrev pub packet_of : WaitingData → PacketRecord
-packet_of w = record { number = w.packet; payload = w.payload }
+abbrev pub payload_of : WaitingData → List ℕ
+payload_of w = w.payload
 
 -- The record of this paused endpoint: all that changes of it. Left out are what the waiting packet asks and what is prepared of the answer,
 -- which are made again.
@@ -75,7 +75,7 @@ record_of p = record {
   carried = (state_data p.state).carried;
   sending = (state_data p.state).sending;
   reader = reader_of p.input;
-  waiting = option_map packet_of p.waiting;
+  waiting = option_map payload_of p.waiting;
 }
 
 -- what is made of a record is so, unless memory runs out

@@ -39,14 +39,9 @@ abbrev pub held_in : ReaderRecord → List ℕ
 held_in (OfLines left line) = line
 held_in (OfPackets keys number held) = held
 
--- a packet that waits: its number and its payload; what it asks is told by these
-pub record PacketRecord : Type 0 where
-  pub number : ℕ
-  pub payload : List ℕ
-
 -- How many bytes more it wants before anything comes of them; its role; whether the first attempt that is left was confirmed, and how
 -- many are left; its phase, and whether the packet of a wrong guess is due; what it knows; what it carries along, and what it sends packets
--- with; its reader; and the packet that waits, where one does.
+-- with; its reader; and the payload of the packet that waits, where one does, which tells what it asks.
 pub record RecordData : Type 0 where
   pub missing : ℕ
   pub role : Side
@@ -59,4 +54,4 @@ pub record RecordData : Type 0 where
   pub carried : Carried
   pub sending : Sending
   pub reader : ReaderRecord
-  pub waiting : Option PacketRecord
+  pub waiting : Option (List ℕ)

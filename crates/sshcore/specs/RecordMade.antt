@@ -25,7 +25,7 @@ use Rattle.sshcore.specs.EndData.{Open}
 use Rattle.sshcore.specs.EndpointParts.{ConfigData, DecisionsData, Setup, setup_with}
 use Rattle.sshcore.specs.Paused.{FitsPaused, PausedAfter, PausedData, asked_paused, kept_by}
 use Rattle.sshcore.specs.Record.{HasKeyNames, HasNames, HasUserText, IsMadeSo, IsRecordOf}
-use Rattle.sshcore.specs.RecordData.{AuthenticationRecord, ExchangeRecord, OfLines, OfPackets, PacketRecord, ReaderRecord, RecordData}
+use Rattle.sshcore.specs.RecordData.{AuthenticationRecord, ExchangeRecord, OfLines, OfPackets, ReaderRecord, RecordData}
 use Rattle.sshcore.specs.StateData.{Carried, StateData, algorithms_or, completed_methods_data, user_key_data}
 
 -- what an endpoint in this phase may know of the exchange
@@ -108,9 +108,9 @@ wants m (OfLines left line) = 0
 wants m (OfPackets keys number held) = needed (protection m keys number) held - length held
 
 -- how many bytes more a record's reader needs; 0 where a packet waits
-abbrev pub missing_in : SuiteData → ReaderRecord → Option PacketRecord → ℕ
+abbrev pub missing_in : SuiteData → ReaderRecord → Option (List ℕ) → ℕ
 missing_in m reader None = wants m reader
-missing_in m reader (Some packet) = 0
+missing_in m reader (Some payload) = 0
 
 -- a reader as the record says, of lines by this form
 abbrev pub IsInputOf : LineForm → ReaderRecord → Input → Type 0
@@ -119,12 +119,12 @@ IsInputOf form (OfLines left line) (input.Packets r) = ⊥
 IsInputOf form (OfPackets keys number held) (input.Lines r) = ⊥
 IsInputOf form (OfPackets keys number held) (input.Packets r) = packet_reader_data r ≡ record { keys = keys; seq = number; held = held; fault = None }
 
--- packets that wait are the same: their numbers, their payloads, and what they ask
+-- packets that wait are the same: their payloads, and what they ask
 abbrev pub IsSameWaiting : Option WaitingData → Option WaitingData → Type 0
 IsSameWaiting None None = Unit {0}
 IsSameWaiting None (Some w) = ⊥
 IsSameWaiting (Some v) None = ⊥
-IsSameWaiting (Some v) (Some w) = (w.packet ≡ v.packet) × (w.payload ≡ v.payload) × (w.question ≡ v.question)
+IsSameWaiting (Some v) (Some w) = (w.payload ≡ v.payload) × (w.question ≡ v.question)
 
 -- Two readers are alike. Both read lines and have come as far, the second by this form; or both read packets, with the same keys, sequence
 -- number, bytes held and fault.

@@ -15,7 +15,7 @@ use Rattle.sshcore.specs.declared.phase_table.Phase.TheVariants as phase
 use Rattle.sshcore.specs.EndpointParts.{UserKeyData}
 use Rattle.sshcore.specs.Output.{Sending}
 use Rattle.sshcore.specs.CompletedMethods.{CompletedMethodsData}
-use Rattle.sshcore.specs.RecordData.{AuthenticationRecord, ExchangeRecord, OfLines, OfPackets, PacketRecord, ReaderRecord, RecordData, held_in}
+use Rattle.sshcore.specs.RecordData.{AuthenticationRecord, ExchangeRecord, OfLines, OfPackets, ReaderRecord, RecordData, held_in}
 use Rattle.sshcore.specs.StateData.{Carried}
 
 -- a number as a uint32, in front of what follows (RFC 4251 section 5)
@@ -52,10 +52,6 @@ names_text a rest =
 -- the algorithm and the blob of the user's key
 abbrev pub user_key_text : UserKeyData → List ℕ → List ℕ
 user_key_text k rest = bytes_text k.algorithm (bytes_text k.blob rest)
-
--- the sequence number and the payload of a packet that waits
-abbrev pub packet_text : PacketRecord → List ℕ → List ℕ
-packet_text p rest = number_text p.number (bytes_text p.payload rest)
 
 -- a role as a number: 0 is the client, 1 the server
 abbrev pub role_number : Side → ℕ
@@ -116,12 +112,12 @@ abbrev pub front_text : RecordData → List ℕ → List ℕ
 front_text r rest =
     number_text (role_number r.role) (flag_text r.confirmed (number_text r.left (number_text (phase_number r.phase) (flag_text r.guess rest))))
 
--- The parts of a record in order: the front, the key exchange, authentication, what is carried along, sending, the reader, and the packet
--- that waits.
+-- The parts of a record in order: the front, the key exchange, authentication, what is carried along, sending, the reader, and the payload
+-- of the packet that waits.
 abbrev pub body_text : RecordData → List ℕ → List ℕ
 body_text r rest =
     front_text r (exchange_text r.exchange (authentication_text r.authentication (carried_text r.carried (sending_text r.sending
-    (reader_text r.reader (option_text packet_text r.waiting rest))))))
+    (reader_text r.reader (option_text bytes_text r.waiting rest))))))
 
 -- All of a record, and what follows. First `RECORD_VERSION`, how many bytes more the reader needs, and the bytes that it holds; then the
 -- parts in order (profile).
@@ -166,11 +162,6 @@ pub record FitsUserKey (k : UserKeyData) : Type 0 where
   pub algorithm : IsShort k.algorithm
   pub blob : IsShort k.blob
 
--- the sequence number of the packet is below 2^32, and its payload fits a string
-pub record FitsPacketRecord (p : PacketRecord) : Type 0 where
-  pub number : p.number < 2 ^ 32
-  pub payload : IsShort p.payload
-
 -- all that is known of the key exchange fits strings
 pub record FitsExchange (x : ExchangeRecord) : Type 0 where
   pub version : IsShort x.version
@@ -212,4 +203,4 @@ pub record FitsRecord (r : RecordData) : Type 0 where
   pub carried : FitsCarried r.carried
   pub sending : FitsSending r.sending
   pub reader : FitsReader r.reader
-  pub waiting : IfSome r.waiting FitsPacketRecord
+  pub waiting : IfSome r.waiting IsShort

@@ -13,10 +13,9 @@ use Rattle.sshcore.specs.declared.record_parts.ReaderParts.{ReaderParts}
 use Rattle.sshcore.specs.declared.record_parts.ReaderParts.TheVariants as reader
 use Rattle.sshcore.specs.declared.record_parts.RecordParts.{RecordParts}
 use Rattle.sshcore.specs.declared.record_parts.SendingParts.{SendingParts}
-use Rattle.sshcore.specs.declared.record_parts.WaitingParts.{WaitingParts}
 use Rattle.sshcore.specs.EndpointParts.{UserKeyData}
 use Rattle.sshcore.specs.Output.{Sending}
-use Rattle.sshcore.specs.RecordData.{AuthenticationRecord, ExchangeRecord, OfLines, OfPackets, PacketRecord, ReaderRecord, RecordData}
+use Rattle.sshcore.specs.RecordData.{AuthenticationRecord, ExchangeRecord, OfLines, OfPackets, ReaderRecord, RecordData}
 use Rattle.sshcore.specs.StateData.{Carried}
 
 -- the twin of keys that are lent
@@ -78,10 +77,6 @@ abbrev pub reader_record : ReaderParts → ReaderRecord
 reader_record (reader.Lines others line) = OfLines others line.now
 reader_record (reader.Packets keys number held) = OfPackets (option_map lent_keys keys) number held.now
 
--- the twin of what is written of a packet that waits
-abbrev pub packet_record : WaitingParts → PacketRecord
-packet_record w = record { number = w.number; payload = w.payload.now }
-
 -- the twin of all that is written of an endpoint
 abbrev pub record_data : RecordParts → RecordData
 record_data r = record {
@@ -96,5 +91,5 @@ record_data r = record {
   carried = carried_record r.carried;
   sending = sending_record r.sending;
   reader = reader_record r.reader;
-  waiting = option_map packet_record r.waiting;
+  waiting = option_map (λ payload. payload.now) r.waiting;
 }

@@ -1,6 +1,6 @@
 -- What a request of authentication proves, and what it comes to: RFC 4252 sections 5 to 8.
 
-use Rattle.std.specs.Prelude.{ℕ, ◌+◌, ◌&&◌, Bool, true, false, if◌then◌else◌, List, [], ◌∷◌, codes, Option, None, Some, Result, Ok}
+use Rattle.std.specs.Prelude.{ℕ, ◌+◌, ◌&&◌, Bool, false, if◌then◌else◌, List, [], ◌∷◌, codes, Option, None, Some, Result, Ok}
 use Rattle.sshwire.specs.TypeReadings.{is_name}
 use Rattle.sshwire.specs.declared.share_form.ShareForm.TheVariants.{Mpint}
 use Rattle.sshmsg.specs.declared.fault.MsgFault.{MsgFault}
@@ -24,24 +24,6 @@ use Rattle.sshcore.specs.CompletedMethods.{Tried}
 -- profile).
 abbrev pub is_supported : SuiteData → List ℕ → Bool
 is_supported m algorithm = is_name algorithm && (m.can algorithm).signature
-
--- What a request claims of its user, if its method may be used: `none` always, that nothing is proved (RFC 4252 section 5.2); a
--- password where the method is listed (section 8); a key where the method is listed and the algorithm is supported (section 7).
--- It is decided on, and no signature is looked at before. A query, a change of the password and any other method claim nothing.
-unfoldable pub claimed_proof : SuiteData → ConfigData → MethodData → Option ProofData
-claimed_proof m config NoMethod = Some NoProof
-claimed_proof m config (Password password) =
-    if is_in config.methods (codes "password") then Some (PasswordProof password) else None
-claimed_proof m config (PublicKey algorithm key signature) =
-    if is_in config.methods (codes "publickey") && is_supported m algorithm then Some (KeyProof algorithm key) else None
-claimed_proof m config _ = None
-
--- What a request claims holds: of a key, its algorithm is a name, and the signature of the session identifier and the request is the
--- key's (RFC 4252 section 7). Of any other claim there is nothing to verify.
-abbrev pub is_verified : SuiteData → List ℕ → List ℕ → List ℕ → MethodData → Bool
-is_verified m session user service (PublicKey algorithm key signature) =
-    is_name algorithm && m.verify algorithm key (signed_text session user service algorithm key) signature
-is_verified m session user service _ = true
 
 -- What a signature proves: that the user's side has the private key, if the algorithm is supported and the signature of the session
 -- identifier and the request is the key's (RFC 4252 section 7).

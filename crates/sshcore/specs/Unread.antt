@@ -1,6 +1,7 @@
 -- A packet that an asking endpoint has read, and that isn't answered yet.
 
 use Rattle.std.specs.Prelude.{◌≡◌, ◌≤◌, ◌+◌, ◌%◌, ◌^◌, ℕ, Bool, if◌then◌else◌, List, [], ◌++◌, length, Option, None, Some}
+use Rattle.sshmsg.specs.MessageData.{MessageData}
 use Rattle.sshneg.specs.declared.side.Side.{Side}
 use Rattle.sshpacket.specs.declared.limits.TheConstants.{PACKET_LIMIT}
 use Rattle.sshpacket.specs.declared.reader.PacketReader.{PacketReader}
@@ -11,13 +12,16 @@ use Rattle.sshpacket.specs.Suite.{SuiteData, next_keys}
 use Rattle.sshcore.specs.declared.input.Input.{Input}
 use Rattle.sshcore.specs.declared.input.Input.TheVariants as input
 use Rattle.sshcore.specs.AskingData.{WaitingData}
-use Rattle.sshcore.specs.Brings.{IsOngoing}
+use Rattle.sshcore.specs.Brings.{Brings, IsOngoing}
 use Rattle.sshcore.specs.EndData.{Open}
 use Rattle.sshcore.specs.EndpointParts.{ConfigData, DecisionsData, Setup, setup_with}
+use Rattle.sshcore.specs.Exchanged.{HasForm}
 use Rattle.sshcore.specs.Inputs.{CanRead, EndpointStands, Steps}
 use Rattle.sshcore.specs.Keeping.{FitsConfig}
-use Rattle.sshcore.specs.Prepared.{IsPrepared}
-use Rattle.sshcore.specs.Questions.{AnswerData, decided, question_at}
+use Rattle.sshcore.specs.Judging.{IsPending}
+use Rattle.sshcore.specs.QuestionAt.{question_at}
+use Rattle.sshcore.specs.Questions.{AnswerData, decided}
+use Rattle.sshcore.specs.QuestionsView.{pending_question}
 use Rattle.sshcore.specs.StateData.{StateData, keys_due, keys_left}
 
 -- From `i` a packet was read with the last of these bytes, and the reader stands at `j`: nothing is held, and the next packet has the
@@ -28,7 +32,6 @@ pub record ReadsPacket (m : SuiteData) (i j : Input) (w : WaitingData) (taken : 
   pub was : i ≡ input.Packets before
   pub is : j ≡ input.Packets after
   pub reads : ahead m (packet_reader_data before) taken ≡ whole w.payload (length (packet_reader_data before).held + length taken)
-  pub number : w.packet ≡ (packet_reader_data before).seq
   pub left : packet_reader_data after ≡ record (packet_reader_data before) {
     keys = next_keys m (packet_reader_data before).keys (length (packet_reader_data before).held + length taken);
     held = [];
@@ -53,18 +56,32 @@ abbrev pub IsIdle : Input → Type 0
 IsIdle (input.Lines reader) = ⊥
 IsIdle (input.Packets reader) = (packet_reader_data reader).held ≡ []
 
--- where a packet waits, an endpoint whose session goes on is open, the packet asks, and what is prepared is what the suite answers
+-- what is kept of a packet that waits is what its answer needs
+pub record KeepsPacket (m : SuiteData) (role : Side) (config : ConfigData) (kept : StateData) (w : WaitingData) : Type 0 where
+  pub message : MessageData
+  pub waits : IsPending m role config kept w.payload message w.pending
+  pub question_is : w.question ≡ pending_question w.pending
+
+-- where a packet waits, an endpoint whose session goes on is open, the packet asks, and what is kept of it is what its answer needs
 pub record IsAsked (m : SuiteData) (role : Side) (config : ConfigData) (kept : StateData) (j : Input) (w : WaitingData) : Type 0 where
   pub is_open : kept.end ≡ Open
   pub idle : IsIdle j
   pub short : length w.payload ≤ PACKET_LIMIT
   pub asks : question_at m role config kept w.payload ≡ Some w.question
-  pub prepared : IsPrepared m config.random w.prepared
+  pub keeps : KeepsPacket m role config kept w
 
--- where a packet waits and the session goes on, the packet asks, and what is prepared is what the suite answers
+-- where a packet waits and the session goes on, the packet asks, and what is kept of it is what its answer needs
 abbrev pub IsAskedBy : SuiteData → Side → ConfigData → StateData → Input → Option WaitingData → Type 0
 IsAskedBy m role config kept j None = Unit {0}
 IsAskedBy m role config kept j (Some w) = IsOngoing kept.end → IsAsked m role config kept j w
+
+-- What becomes of a packet with this number and payload: it asks nothing and is answered, whatever is decided; or it asks and waits, and
+-- nothing else is done.
+abbrev pub TakesPacket : SuiteData → Side → ConfigData → StateData → StateData → ℕ → List ℕ → List ℕ → List ℕ → Option WaitingData → Type 0
+TakesPacket m role config old new packet payload before after None =
+    (question_at m role config old payload ≡ None) × ((d : DecisionsData) → HasForm m old → Brings (setup_with m d role config) old new packet payload before after)
+TakesPacket m role config old new packet payload before after (Some w) =
+    (new ≡ old) × (after ≡ before) × (w.payload ≡ payload) × (question_at m role config new w.payload ≡ Some w.question) × KeepsPacket m role config new w
 
 -- what is true of every asking endpoint: where its session goes on, its reader may be given bytes, and what it keeps is of use with
 -- its suite and its config
@@ -89,6 +106,11 @@ AskingSteps m role config i old j new (Some w) taken before after = StopsAt m ro
 abbrev pub AnswerSteps : SuiteData → Side → ConfigData → AnswerData → WaitingData → Input → StateData → Input → StateData → List ℕ → List ℕ → Type 0
 AnswerSteps m role config answer w j old k new before after =
     (d : DecisionsData) → decided d w.question ≡ answer → (i : Input) (taken : List ℕ) → ReadsPacket m i j w taken → Steps (setup_with m d role config) i old k new taken before after
+
+-- What became of the packet that waits, if one does: it was answered as these decisions answer it. Without one nothing changed.
+abbrev pub AnsweredBy : SuiteData → Side → ConfigData → DecisionsData → Option WaitingData → Input → StateData → Input → StateData → List ℕ → List ℕ → Type 0
+AnsweredBy m role config d None j old k new before after = (k ≡ j) × (new ≡ old) × (after ≡ before)
+AnsweredBy m role config d (Some w) j old k new before after = AnswerSteps m role config (decided d w.question) w j old k new before after
 
 -- The keys that are due after a packet are taken into use (RFC 4253 section 7.3), from number 0 where the endpoint is strict.
 abbrev pub reads_with : Option KeysData → Bool → PacketReaderData → PacketReaderData

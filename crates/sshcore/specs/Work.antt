@@ -1,4 +1,4 @@
--- What an endpoint answers to a message that has a place: RFC 4253 sections 7 to 11, RFC 4252. The order of the checks is
+-- What an endpoint asks and answers at a message that has a place: RFC 4253 sections 7 to 11, RFC 4252. The order of the checks is
 -- profile.
 
 use Rattle.std.specs.Prelude.{ℕ, ◌&&◌, Bool, false, true, not, if◌then◌else◌, List, [], ◌∷◌, codes, Option, None, Some, Result, Ok, Err}
@@ -21,14 +21,15 @@ use Rattle.sshneg.specs.Strictness.{is_right_guess}
 use Rattle.sshpacket.specs.Stream.{Units}
 use Rattle.sshpacket.specs.Suite.{ResponseData, SuiteData}
 use Rattle.sshcore.specs.declared.end.Fault.TheVariants as fault
-use Rattle.sshcore.specs.Attempts.{attempt_reply, failure_reply, pk_ok_reply, success_reply}
+use Rattle.sshcore.specs.Attempts.{attempt_step, failure_step, pk_ok_step, success_reply}
 use Rattle.sshcore.specs.Before.{strict_towards}
 use Rattle.sshcore.specs.EndData.{Closed, Reply, fails, goes}
 use Rattle.sshcore.specs.Exchange.{answer_with, choice_with, exchange_with, own_kexinit, secret_of}
 use Rattle.sshcore.specs.KnownBefore.{Known}
-use Rattle.sshcore.specs.EndpointParts.{ConfigData, DecisionsData, Setup}
-use Rattle.sshcore.specs.Requests.{request_reply}
-use Rattle.sshcore.specs.Signatures.{signature_by}
+use Rattle.sshcore.specs.EndpointParts.{ConfigData, Setup}
+use Rattle.sshcore.specs.Questions.{HostKeyQuestion, is_yes}
+use Rattle.sshcore.specs.Requests.{request_step}
+use Rattle.sshcore.specs.Step.{AtOnce, Asks, Step, settled, signed_step}
 
 -- the client's exchange message in a form of shares: KEXDH_INIT (RFC 4253 section 8) or KEX_ECDH_INIT (RFC 5656 section 4)
 abbrev pub init_in : ShareForm → List ℕ → MessageData
@@ -116,23 +117,22 @@ signed_reply config known x (Some signature) =
 
 -- What a server does at the client's share: it answers with the signature by the key that is configured for the chosen algorithm. Without a
 -- shared secret it fails, as F9 (RFC 4253 section 8; F9 is profile).
-abbrev pub answered_by : SuiteData → DecisionsData → ConfigData → Known → ExchangeData → Option ResponseData → Reply
-answered_by m d config known x None = fails fault.Exchange
-answered_by m d config known x (Some answer) =
-    signed_reply config known x (signature_by m d 0 known.algorithms.host_key (secret_of config.host_keys known.algorithms.host_key) (exchange_hash m known.algorithms.kex x))
+abbrev pub answered_step : SuiteData → ConfigData → Known → ExchangeData → Option ResponseData → Step
+answered_step m config known x None = AtOnce (fails fault.Exchange)
+answered_step m config known x (Some answer) =
+    signed_step m 0 known.algorithms.host_key (secret_of config.host_keys known.algorithms.host_key) (exchange_hash m known.algorithms.kex x) (signed_reply config known x)
 
 -- what a server does at the client's share, as the message that brings it has it (RFC 4253 section 8)
-unfoldable pub init_reply : SuiteData → DecisionsData → Side → ConfigData → Known → MessageData → Reply
-init_reply m d role config known message =
-    answered_by m d config known (exchange_with m role config known.algorithms known.version known.kexinit (Ok message))
-    (answer_with m role config known.algorithms (Ok message))
+unfoldable pub init_step : SuiteData → Side → ConfigData → Known → MessageData → Step
+init_step m role config known message =
+    answered_step m config known (exchange_with m role config known.algorithms known.version known.kexinit (Ok message)) (answer_with m role config known.algorithms (Ok message))
 
 -- the name of the service of authentication (RFC 4252 section 4)
 abbrev pub userauth : List ℕ
 userauth = codes "ssh-userauth"
 
--- Its answer at a client: whether the host key is trusted, then the shared secret, then the signature (RFC 4253 section 8);
--- then NEWKEYS and the request of the service (sections 7.3 and 10).
+-- What a client does at the server's share once it trusts the host key: it fails without a shared secret, as F9, or if the signature is
+-- wrong, as F11; else it sends NEWKEYS and requests the service (RFC 4253 sections 8, 7.3 and 10).
 abbrev pub signed_by : SuiteData → Known → ExchangeData → List ℕ → Option ResponseData → Reply
 signed_by m known x signature None = fails fault.Exchange
 signed_by m known x signature (Some answer) =
@@ -142,15 +142,14 @@ signed_by m known x signature (Some answer) =
 
 -- What a client does at the server's share: first it asks whether the host key is trusted, and if not fails, as F10 (RFC 4253 section 8;
 -- the order is profile).
-abbrev pub trusted_by : SuiteData → DecisionsData → Known → ExchangeData → List ℕ → Option ResponseData → Reply
-trusted_by m d known x signature answer =
-    if d.host_key known.algorithms.host_key x.host_key then signed_by m known x signature answer else fails fault.HostKey
+abbrev pub trusted_step : SuiteData → Known → ExchangeData → List ℕ → Option ResponseData → Step
+trusted_step m known x signature response =
+    Asks (HostKeyQuestion known.algorithms.host_key x.host_key) (λ answer. if is_yes answer then signed_by m known x signature response else fails fault.HostKey)
 
 -- what a client does at the server's share, as the message that brings it has it (RFC 4253 section 8)
-unfoldable pub reply_reply : Setup → Known → MessageData → List ℕ → Reply
-reply_reply setup known message signature =
-    trusted_by setup.suite setup.decisions known (exchange_with setup.suite setup.role setup.config known.algorithms known.version known.kexinit (Ok message)) signature
-    (answer_with setup.suite setup.role setup.config known.algorithms (Ok message))
+unfoldable pub reply_step : SuiteData → Side → ConfigData → Known → MessageData → List ℕ → Step
+reply_step m role config known message signature =
+    trusted_step m known (exchange_with m role config known.algorithms known.version known.kexinit (Ok message)) signature (answer_with m role config known.algorithms (Ok message))
 
 -- the banner that follows SERVICE_ACCEPT, if there is one (RFC 4252 section 5.4)
 abbrev pub banner_by : Option (List ℕ) → Units
@@ -165,23 +164,26 @@ service_reply config service =
     else fails fault.Service
 
 -- SERVICE_ACCEPT at a client: the first attempt of its plan is made (RFC 4252 section 5)
-abbrev pub accept_reply : SuiteData → DecisionsData → Known → List ℕ → Reply
-accept_reply m d known service =
-    if bytes_eq service userauth then attempt_reply m d known.session known.left else fails (fault.Unexpected SSH_MSG_SERVICE_ACCEPT)
+abbrev pub accept_step : SuiteData → Known → List ℕ → Step
+accept_step m known service =
+    if bytes_eq service userauth then attempt_step m known.session known.left else AtOnce (fails (fault.Unexpected SSH_MSG_SERVICE_ACCEPT))
 
--- what a message is answered; every other is read and ignored
-unfoldable pub work : Setup → Known → MessageData → Reply
-work setup known (Disconnect reason description language) = record { answers = []; end = Closed reason }
-work setup known (KexInit peer) = kexinit_reply setup.suite setup.role setup.config known peer
-work setup known (KexdhInit e) = init_reply setup.suite setup.decisions setup.role setup.config known (KexdhInit e)
-work setup known (KexEcdhInit client_share) = init_reply setup.suite setup.decisions setup.role setup.config known (KexEcdhInit client_share)
-work setup known (KexdhReply host_key f signature) = reply_reply setup known (KexdhReply host_key f signature) signature
-work setup known (KexEcdhReply host_key server_share signature) =
-    reply_reply setup known (KexEcdhReply host_key server_share signature) signature
-work setup known (ServiceRequest service) = service_reply setup.config service
-work setup known (ServiceAccept service) = accept_reply setup.suite setup.decisions known service
-work setup known (UserauthRequest user service method) = request_reply setup.suite setup.decisions setup.config known user service method
-work setup known (UserauthFailure listed partial) = failure_reply setup.suite setup.decisions known listed
-work setup known UserauthSuccess = success_reply known
-work setup known (UserauthPkOk algorithm key) = pk_ok_reply setup.suite setup.decisions known algorithm key
-work setup known _ = goes []
+-- What a message comes to, by what is known so far; every other is read and ignored.
+unfoldable pub step : SuiteData → Side → ConfigData → Known → MessageData → Step
+step m role config known (Disconnect reason description language) = AtOnce (record { answers = []; end = Closed reason })
+step m role config known (KexInit peer) = AtOnce (kexinit_reply m role config known peer)
+step m role config known (KexdhInit e) = init_step m role config known (KexdhInit e)
+step m role config known (KexEcdhInit client_share) = init_step m role config known (KexEcdhInit client_share)
+step m role config known (KexdhReply host_key f signature) = reply_step m role config known (KexdhReply host_key f signature) signature
+step m role config known (KexEcdhReply host_key server_share signature) = reply_step m role config known (KexEcdhReply host_key server_share signature) signature
+step m role config known (ServiceRequest service) = AtOnce (service_reply config service)
+step m role config known (ServiceAccept service) = accept_step m known service
+step m role config known (UserauthRequest user service method) = request_step m config known user service method
+step m role config known (UserauthFailure listed partial) = failure_step m known listed
+step m role config known UserauthSuccess = AtOnce (success_reply known)
+step m role config known (UserauthPkOk algorithm key) = pk_ok_step m known algorithm key
+step m role config known _ = AtOnce (goes [])
+
+-- what a message is answered by these decisions
+abbrev pub work : Setup → Known → MessageData → Reply
+work setup known message = settled setup.decisions (step setup.suite setup.role setup.config known message)

@@ -12,19 +12,19 @@ ghost use Rattle.sshcore.specs.EndpointParts.{DecisionsData};
 ghost use Rattle.sshcore.specs.Inputs.{CanRead, EndpointStands, turns_left};
 ghost use Rattle.sshcore.specs.declared.asking_given.Answer.TheVariants as given;
 ghost use Rattle.sshcore.specs.QuestionsView.{answer_data, question_data};
-ghost use Rattle.sshcore.specs.Questions.{Decided, decided, question_at, taken, taken_by};
+ghost use Rattle.sshcore.specs.QuestionAt.{question_at};
+ghost use Rattle.sshcore.specs.Questions.{Decided, taken, taken_by};
 ghost use Rattle.sshcore.specs.Keeping.{StillFits};
 ghost use Rattle.sshcore.specs.StateData.{state_data};
 ghost use Rattle.sshcore.specs.Unread.{AnswerSteps, IsAsked, IsIdle, IsTurned};
 ghost use Rattle.sshcore.specs.WaitingView.{waiting_data};
 
 use crate::asking_endpoint::AskingEndpoint;
-use crate::asking_given::{Answer, Given, Listener};
+use crate::asking_given::{Answer, Listener};
 use crate::asking_input::turn;
 use crate::asking_question::Question;
 use crate::asking_waiting::Waiting;
 use crate::config::Config;
-use crate::decisions::Decisions;
 use crate::end::{End, Fault};
 use crate::input::Input;
 use crate::state::State;
@@ -49,15 +49,15 @@ impl<S: Suite, L: Listener> AskingEndpoint<'_, S, L> {
             return None;
         }
         match &self.waiting {
-            Some(waiting) => Some(waiting.asked.question()),
+            Some(waiting) => Some(waiting.pending.question()),
             None => None,
         }
     }
 
-    /// Answers the question, and appends to `out` what is sent to the packet that asked it: by a yes (`allowed`) a client
-    /// trusts the host key, and a server takes a request as successful, unless it is signed and the signature, which is
-    /// verified now, is wrong; or the key of a query as one that would do. By a no nothing is verified. A question for a
-    /// signature is answered by either as by none. Then go on with what [`feed`](AskingEndpoint::feed) didn't use.
+    /// Answers the question, and appends to `out` what is sent to the packet that asked it. By a yes (`allowed`) a client
+    /// trusts the host key; a server accepts the request, whose signature has been verified if it has one, or tells the client
+    /// that the key of its query would do. A question for a signature is answered by either as by none. Then go on with what
+    /// [`feed`](AskingEndpoint::feed) didn't use.
     ///
     /// Where nothing is asked the endpoint doesn't change, and nothing is appended. Answers `Memory` where an
     /// allocation failed: the endpoint has then failed, and `out` is unchanged.
@@ -116,7 +116,6 @@ impl<S: Suite, L: Listener> AskingEndpoint<'_, S, L> {
             &mut self.state,
             &self.config,
             self.suite,
-            self.listener,
             &waiting,
             answer,
             out,
@@ -131,13 +130,12 @@ impl<S: Suite, L: Listener> AskingEndpoint<'_, S, L> {
     }
 }
 
-/// Answers a packet that waited, by decisions that answer so; where an allocation failed `out` is unchanged.
-fn answer_given<S: Suite, L: Listener>(
+/// Answers a packet that waited; where an allocation failed `out` is unchanged.
+fn answer_given<S: Suite>(
     input: &mut Input,
     state: &mut State<'_>,
     config: &Config<'_>,
     suite: &S,
-    listener: &L,
     waiting: &Waiting,
     answer: Answer<'_>,
     out: &mut Vec<u8>,
@@ -151,26 +149,25 @@ fn answer_given<S: Suite, L: Listener>(
     ensures kept { OnOk result (by_input (end_data state.new.end) ≡ true) }
     ensures memory { OnErr result (out.new.items ≡ out.old.items) }
 {
-    let given = Given { answer, listener };
     let mut sent = Vec::new(state.alloc);
-    answer_packet(input, state, config, suite, &given, waiting, &mut sent)?;
+    answer_packet(input, state, config, suite, waiting, answer, &mut sent)?;
     out.extend_from_slice(&sent)?;
     Ok(())
 }
 
-/// Answers a packet that asked, by these decisions; what is sent to it is appended to `sent`.
-pub(crate) fn answer_packet<S: Suite, D: Decisions>(
+/// Answers a packet that asked; what is sent to it is appended to `sent`.
+pub(crate) fn answer_packet<S: Suite>(
     input: &mut Input,
     state: &mut State<'_>,
     config: &Config<'_>,
     suite: &S,
-    decisions: &D,
     waiting: &Waiting,
+    answer: Answer<'_>,
     sent: &mut Vec<u8>,
 ) -> Result<(), Memory>
     requires asked { IsAsked (S.meaning suite.now) (role_of config.now) (config_data config.now) (state_data state.old) input.old (waiting_data waiting.now) }
     requires reads { CanRead (S.meaning suite.now) input.old }
-    ensures steps { OnOk result (AnswerSteps (S.meaning suite.now) (role_of config.now) (config_data config.now) (decided (D.policy decisions.now) (waiting_data waiting.now).question) (waiting_data waiting.now)
+    ensures steps { OnOk result (AnswerSteps (S.meaning suite.now) (role_of config.now) (config_data config.now) (taken (waiting_data waiting.now).question (answer_data answer.entry)) (waiting_data waiting.now)
         input.old (state_data state.old) input.new (state_data state.new) sent.old.items sent.new.items) }
     ensures reads { OnOk result (IsOngoing (end_data state.new.end) → CanRead (S.meaning suite.now) input.new) }
     ensures keeps { OnOk result (StillFits (S.meaning suite.now) (config_data config.now) (state_data state.old) (state_data state.new)) }
@@ -179,17 +176,10 @@ pub(crate) fn answer_packet<S: Suite, D: Decisions>(
 {
     sshpacket::parser_by_law();
     sshpacket::stream_law();
+    sshmsg::messages_law();
     sshmsg::numbers_law();
     sshneg::markers_law();
-    state.receive_prepared(
-        config,
-        suite,
-        &waiting.prepared,
-        decisions,
-        &waiting.payload,
-        waiting.packet,
-        sent,
-    )?;
+    state.answer(config, suite, &waiting.pending, answer, sent)?;
     turn_input(input, state);
     Ok(())
 }

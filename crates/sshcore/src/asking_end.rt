@@ -20,6 +20,7 @@ use crate::asking_endpoint::AskingEndpoint;
 use crate::asking_given::Listener;
 use crate::end::{End, Fault};
 use crate::kex_chosen_names::ChosenNames;
+use crate::lent::set;
 use crate::phase_table::Phase;
 use crate::session::{Session, accepted_by, session_of};
 use sshpacket::Suite;
@@ -35,7 +36,8 @@ impl<S: Suite, L: Listener> AskingEndpoint<'_, S, L> {
         ensures ended { asking_end self.old ≢ Open → self.new ≡ self.old }
     {
         if self.is_open() {
-            self.state.end = End::Failed(Fault::Cut);
+            let state = &mut self.state;
+            set(&mut state.end, End::Failed(Fault::Cut));
         }
     }
 

@@ -1,18 +1,20 @@
-//! An answer that was given, as decisions.
+//! An answer that was given, and who is told what the peer tells people.
 
-ghost use Rattle.std.specs.Prelude.{◌≡◌};
-ghost use Rattle.sshcore.specs.Questions.{is_yes};
+ghost use Rattle.std.specs.Prelude.{◌≡◌, ◌≤◌, IfSome, length, option_map};
+ghost use Rattle.sshcore.specs.Questions.{found_in, is_yes};
+ghost use Rattle.sshcore.specs.Signatures.{fitting};
 ghost use Rattle.sshcore.specs.QuestionsView.{answer_data};
 
-use crate::decisions::{Decisions, Proof};
+use crate::asking_question::Question;
+use crate::decisions::Decisions;
 use crate::notice::Notice;
+use sshpacket::SIGNATURE_LIMIT;
 use sshwire::Memory;
 use std::alloc::Global;
 
 /// Is told what the peer of an endpoint tells people. It can't change what is answered.
 pub trait Listener {
-    /// Is told what the peer tells people, by a message before the endpoint answers that, or by a line before the version
-    /// line.
+    /// Is told what the peer tells people: by a message before that asks or is answered, or by a line before the version line.
     fn notice(&self, notice: Notice<'_>);
 }
 
@@ -45,43 +47,55 @@ pub(crate) enum Answer<'g> {
     Signed(Option<&'g [u8]>),
 }
 
-/// The decisions that answer all questions so, with the listener that is told.
+/// What somebody decides, as it is kept until it is taken as an answer.
 #[derive(Drop)]
-pub(crate) struct Given<'g, L: Listener> {
-    pub(crate) answer: Answer<'g>,
-    pub(crate) listener: &'g L,
+pub(crate) enum Given {
+    Decided(bool),
+    Signed(Option<Vec<u8>>),
 }
 
-impl<L: Listener> Decisions for Given<'_, L> {
-    ghost use Rattle.sshcore.specs.Questions.{always};
-    ghost use Rattle.sshcore.specs.QuestionsView.{answer_data};
+impl Given {
+    ghost use Rattle.std.specs.Prelude.{◌≡◌, IfOk};
+    ghost use Rattle.sshcore.specs.Questions.{decided};
+    ghost use Rattle.sshcore.specs.QuestionsView.{answer_data, given_data, question_data};
 
-    ghost policy = { λ given. always (answer_data given.answer) };
-
-    fn host_key(&self, _algorithm: &str, _blob: &[u8]) -> bool {
-        is_yes(self.answer)
-    }
-
-    fn user(&self, _request_number: u32, _user: &str, _service: &str, _proof: &Proof<'_>) -> bool {
-        is_yes(self.answer)
-    }
-
-    fn signature(
-        &self,
+    /// What these decisions answer to a question.
+    pub(crate) fn by<D: Decisions>(
         alloc: Global,
-        _number: usize,
-        _algorithm: &str,
-        _blob: &[u8],
-        _input: &[u8],
-    ) -> Result<Option<Vec<u8>>, Memory> {
-        match self.answer {
-            Answer::Signed(Some(signature)) => Ok(Some(Vec::from_slice(alloc, signature)?)),
-            _ => Ok(None),
+        decisions: &D,
+        question: Question<'_>,
+    ) -> Result<Given, Memory>
+        ensures { IfOk result (λ given. given_data given ≡ decided (D.policy decisions.now) (question_data question.entry)) }
+    {
+        match question {
+            Question::HostKey { algorithm, blob } => {
+                Ok(Given::Decided(decisions.host_key(algorithm, blob)))
+            }
+            Question::User {
+                number,
+                user,
+                service,
+                proof,
+                ..
+            } => Ok(Given::Decided(decisions.user(number, user, service, &proof))),
+            Question::Signature {
+                number,
+                algorithm,
+                blob,
+                input,
+            } => Ok(Given::Signed(decisions.signature(alloc, number, algorithm, blob, input)?)),
         }
     }
 
-    fn notice(&self, notice: Notice<'_>) {
-        self.listener.notice(notice);
+    /// It as an answer.
+    pub(crate) fn answer(&self) -> Answer<'_>
+        ensures { answer_data result ≡ given_data self.now }
+    {
+        match self {
+            Given::Decided(allowed) => Answer::Decided(*allowed),
+            Given::Signed(None) => Answer::Signed(None),
+            Given::Signed(Some(signature)) => Answer::Signed(Some(signature)),
+        }
     }
 }
 
@@ -92,5 +106,22 @@ pub(crate) fn is_yes(answer: Answer<'_>) -> bool
     match answer {
         Answer::Decided(allowed) => allowed,
         Answer::Signed(_) => false,
+    }
+}
+
+/// The signature that was given, if it is no longer than one that a suite makes.
+pub(crate) fn signature_in(answer: Answer<'_>) -> Option<&[u8]>
+    ensures found { option_map (λ s. s.now) result ≡ fitting (found_in (answer_data answer.entry)) }
+    ensures short { IfSome result (λ s. length s.now ≤ SIGNATURE_LIMIT) }
+{
+    match answer {
+        Answer::Signed(Some(signature)) => {
+            if signature.len() <= SIGNATURE_LIMIT {
+                Some(signature)
+            } else {
+                None
+            }
+        }
+        _ => None,
     }
 }

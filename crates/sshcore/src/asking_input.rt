@@ -1,7 +1,8 @@
-//! How an endpoint that asks reads its bytes: up to a packet that can't be answered before its question is.
+//! How an endpoint reads its bytes: up to a packet that can't be answered before its question is.
 
 ghost use Rattle.std.specs.Prelude.{◌≡◌, ◌+◌, ◌*◌, ◌<◌, ◌≤◌, IfOk, OnOk, [], length, take, true};
 ghost use Rattle.sshpacket.specs.PacketReaderData.{ReaderWaits, packet_reader_data};
+ghost use Rattle.sshpacket.specs.declared.limits.TheConstants.{PACKET_LIMIT};
 ghost use Rattle.sshpacket.specs.Suite.{SuiteData};
 ghost use Rattle.sshcore.specs.declared.end.Fault.TheVariants as failed;
 ghost use Rattle.sshcore.specs.declared.input.Input.TheVariants as input;
@@ -11,14 +12,15 @@ ghost use Rattle.sshcore.specs.EndData.{Failed, Open, by_input, end_data};
 ghost use Rattle.sshcore.specs.Inputs.{CanRead, turns_left};
 ghost use Rattle.sshcore.specs.Keeping.{StillFits};
 ghost use Rattle.sshcore.specs.StateData.{state_data};
-ghost use Rattle.sshcore.specs.Unread.{AskingSteps, Turns};
+ghost use Rattle.sshcore.specs.Unread.{AskingSteps, TakesPacket, Turns};
 ghost use Rattle.sshcore.specs.WaitingView.{waiting_of};
 
-use crate::asking_given::{Answer, Given, Listener};
+use crate::asking_given::Listener;
 use crate::asking_waiting::Waiting;
 use crate::config::Config;
 use crate::input::{Input, Received, fail_packet, receive_lines};
-use crate::notice::{give_lines, line_of};
+use crate::judging::Judged;
+use crate::notice::{give_lines, give_notice, line_of};
 use crate::state::State;
 use sshpacket::{PacketReader, PacketStep, Suite};
 use sshwire::Memory;
@@ -62,11 +64,7 @@ impl Input {
             Input::Lines(reader) => {
                 let begun = line_of(reader.unfinished());
                 let received = receive_lines(reader, state, piece)?;
-                let notices = Given {
-                    answer: Answer::Decided(false),
-                    listener,
-                };
-                give_lines(&notices, begun, piece.get(..received.used()).unwrap_or(&[]));
+                give_lines(listener, begun, piece.get(..received.used()).unwrap_or(&[]));
                 match received {
                     Received::Part(used) => Ok(Came {
                         used,
@@ -122,21 +120,12 @@ fn ask_packets<S: Suite, L: Listener>(
             waiting: None,
         }),
         Ok(PacketStep::Payload { payload, seq, used }) => {
-            let prepared = state.prepare(config, suite, payload)?;
-            match state.asked_prepared(config, suite, &prepared, payload)? {
-                Some(asked) => {
-                    let waiting = Waiting::new(state.alloc, seq, payload, asked, prepared)?;
-                    Ok(Came {
-                        used,
-                        waiting: Some(waiting),
-                    })
-                }
+            match take_packet(state, config, suite, listener, payload, seq, sent)? {
+                Some(waiting) => Ok(Came {
+                    used,
+                    waiting: Some(waiting),
+                }),
                 None => {
-                    let given = Given {
-                        answer: Answer::Decided(false),
-                        listener,
-                    };
-                    state.receive_prepared(config, suite, &prepared, &given, payload, seq, sent)?;
                     turn(reader, state);
                     Ok(Came {
                         used,
@@ -153,6 +142,43 @@ fn ask_packets<S: Suite, L: Listener>(
                 waiting: None,
             })
         }
+    }
+}
+
+/// Judges a packet with this number, and answers it, unless it asks: then it waits.
+fn take_packet<S: Suite, L: Listener>(
+    state: &mut State<'_>,
+    config: &Config<'_>,
+    suite: &S,
+    listener: &L,
+    payload: &[u8],
+    packet: u32,
+    sent: &mut Vec<u8>,
+) -> Result<Option<Waiting>, Memory>
+    requires open { end_data state.old.end ≡ Open }
+    requires short { length payload.now ≤ PACKET_LIMIT }
+    ensures takes { IfOk result (λ waiting. TakesPacket (S.meaning suite.now) (role_of config.now) (config_data config.now)
+        (state_data state.old) (state_data state.new) packet payload.now sent.old.items sent.new.items (waiting_of waiting)) }
+    ensures kept { OnOk result (by_input (end_data state.new.end) ≡ true) }
+{
+    sshmsg::messages_law();
+    let judged = state.judge(config, suite, payload)?;
+    give_notice_of(listener, &judged);
+    if judged.is_at_once() {
+        state.receive(config, suite, &judged, payload, packet, sent)?;
+        return Ok(None);
+    }
+    match judged.pending() {
+        None => unreachable!(),
+        Some(pending) => Ok(Some(Waiting::new(state.alloc, payload, pending)?)),
+    }
+}
+
+/// Tells what a message tells people, if a packet was judged to be one.
+fn give_notice_of<L: Listener>(listener: &L, judged: &Judged<'_>) {
+    match judged {
+        Judged::Reads(message) | Judged::Asks(message, _) => give_notice(listener, message),
+        _ => {}
     }
 }
 

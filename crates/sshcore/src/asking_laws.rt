@@ -20,7 +20,8 @@ ghost use Rattle.sshpacket.specs.Suite.{SuiteData};
 ghost use Rattle.sshneg.specs.declared.side.Side.{Side};
 ghost use Rattle.sshcore.specs.AskedQuestions.{AnsweredData, ComesLater, GiveAll, IsAskedOnce, IsTaken, asked, question_after, questions_at};
 ghost use Rattle.sshcore.specs.EndpointParts.{ConfigData, DecisionsData, Setup, setup_with};
-ghost use Rattle.sshcore.specs.Questions.{QuestionData, question_at};
+ghost use Rattle.sshcore.specs.QuestionAt.{question_at};
+ghost use Rattle.sshcore.specs.Questions.{QuestionData};
 ghost use Rattle.sshcore.specs.Standing.{Sits};
 ghost use Rattle.sshcore.specs.StateData.{StateData};
 

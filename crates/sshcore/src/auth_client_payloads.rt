@@ -1,44 +1,48 @@
 //! The payloads of a client's attempts (RFC 4252 sections 5.2, 7 and 8).
 
-ghost use Rattle.std.specs.Prelude.{◌≡◌, ◌≤◌, [], true, false, IfOk, length};
+ghost use Rattle.std.specs.Prelude.{◌≡◌, ◌≤◌, [], true, false, IfOk, IfSome, length, option_map};
+ghost use Rattle.sshwire.specs.declared.limits.TheConstants.{NAME_LIMIT};
 ghost use Rattle.sshwire.specs.Types.{IsName};
 ghost use Rattle.sshmsg.specs.MessageData as content;
 ghost use Rattle.sshmsg.specs.View.{method_data};
 ghost use Rattle.sshmsg.specs.Written.{written_message};
-ghost use Rattle.sshpacket.specs.declared.limits.TheConstants.{DIGEST_LIMIT};
+ghost use Rattle.sshneg.specs.Derivations.{signed_text};
+ghost use Rattle.sshpacket.specs.declared.limits.TheConstants.{BLOB_LIMIT, DIGEST_LIMIT, SIGNATURE_LIMIT};
 ghost use Rattle.sshcore.specs.declared.config_parts.TheConstants.{PRIVATE_KEY_LIMIT};
-ghost use Rattle.sshcore.specs.Attempts.{is_asked, method_by, request_of};
+ghost use Rattle.sshcore.specs.Attempts.{is_asked, own_request, signed_method};
 ghost use Rattle.sshcore.specs.Authenticating.{FitsRequest};
 ghost use Rattle.sshcore.specs.ConfigRules.{IsAttempt};
-ghost use Rattle.sshcore.specs.ConfigParts.{ByKey};
 ghost use Rattle.sshcore.specs.ConfigView.{attempt_data, credential_data};
 ghost use Rattle.sshcore.specs.MadePayloads.{IsMade};
 ghost use Rattle.sshcore.specs.Plan.{confirmed, first_made};
 
 use crate::config_parts::{Attempt, Credential};
-use crate::decisions::Decisions;
 use crate::payloads::payload_from;
-use crate::signing::{SigningKey, signature_by};
 use sshmsg::{Message, Method};
 use sshneg::signed_request;
 use sshpacket::Suite;
 use sshwire::Memory;
 use std::alloc::Global;
 
+/// A user's key that somebody else signs with.
+#[derive(Clone, Copy)]
+pub(crate) struct AskedKey<'k> {
+    pub(crate) algorithm: &'k str,
+    pub(crate) blob: &'k [u8],
+}
+
 /// The payload of the request that an attempt makes next (RFC 4252 section 5), in the session of this
-/// identifier, after which so many attempts are left: its query, if it asks one that wasn't confirmed (section 7), else itself.
-pub(crate) fn next_payload<S: Suite, D: Decisions>(
+/// identifier: its query, if it asks one that wasn't confirmed (section 7), else itself, signed by the suite.
+pub(crate) fn next_payload<S: Suite>(
     alloc: Global,
     suite: &S,
-    decisions: &D,
-    number: usize,
     session: &[u8],
     confirmed: bool,
     attempt: &Attempt,
 ) -> Result<Vec<u8>, Memory>
     requires attempt { IsAttempt (attempt_data attempt.now) }
     requires session { length session.now ≤ DIGEST_LIMIT }
-    ensures { IfOk result (λ made. IsMade (request_of (S.meaning suite.now) (D.policy decisions.now) number session.now (first_made confirmed (attempt_data attempt.now))) made.items) }
+    ensures { IfOk result (λ made. IsMade (own_request (S.meaning suite.now) session.now (first_made confirmed (attempt_data attempt.now))) made.items) }
 {
     match &attempt.credential {
         Credential::None => method_payload(alloc, attempt, Method::None),
@@ -53,16 +57,7 @@ pub(crate) fn next_payload<S: Suite, D: Decisions>(
             if *ask && !confirmed {
                 query_payload(alloc, suite, attempt, algorithm, private_key)
             } else {
-                signed_payload(
-                    alloc,
-                    suite,
-                    decisions,
-                    number,
-                    session,
-                    attempt,
-                    algorithm,
-                    private_key,
-                )
+                signed_payload(alloc, suite, session, attempt, algorithm, private_key)
             }
         }
     }
@@ -90,13 +85,10 @@ fn query_payload<S: Suite>(
     method_payload(alloc, attempt, method)
 }
 
-/// The payload of the request that is signed by a key, in the session of this identifier (RFC 4252
-/// section 7); where no signature is made, of one by `none`.
-fn signed_payload<S: Suite, D: Decisions>(
+/// The payload of the request that the suite signs by a key, in the session of this identifier (RFC 4252 section 7).
+fn signed_payload<S: Suite>(
     alloc: Global,
     suite: &S,
-    decisions: &D,
-    number: usize,
     session: &[u8],
     attempt: &Attempt,
     algorithm: &str,
@@ -107,24 +99,44 @@ fn signed_payload<S: Suite, D: Decisions>(
     requires key { length private_key.now ≤ PRIVATE_KEY_LIMIT }
     requires session { length session.now ≤ DIGEST_LIMIT }
     ensures { IfOk result (λ made. IsMade (written_message (content.UserauthRequest (attempt_data attempt.now).user (attempt_data attempt.now).service
-        (method_by (S.meaning suite.now) (D.policy decisions.now) number session.now (attempt_data attempt.now).user (attempt_data attempt.now).service (ByKey algorithm.now private_key.now false)))) made.items) }
+        (content.PublicKey algorithm.now ((S.meaning suite.now).blob algorithm.now private_key.now)
+        ((S.meaning suite.now).sign algorithm.now private_key.now
+        (signed_text session.now (attempt_data attempt.now).user (attempt_data attempt.now).service algorithm.now ((S.meaning suite.now).blob algorithm.now private_key.now)))))) made.items) }
 {
     sshneg::exchange_law();
     let key = suite.blob(alloc, algorithm, private_key)?;
     let service = attempt.service.as_bytes();
     let input = signed_request(alloc, session, &attempt.user, service, algorithm, &key)?;
-    let signing = SigningKey {
-        algorithm,
-        private_key,
-        blob: &key,
+    let signature = suite.sign(alloc, algorithm, private_key, &input)?;
+    let method = Method::PublicKey {
+        algorithm: algorithm.as_bytes(),
+        key: &key,
+        signature: &signature,
     };
-    match signature_by(alloc, suite, decisions, number, signing, &input)? {
+    method_payload(alloc, attempt, method)
+}
+
+/// The payload of the request of an attempt by a key that somebody else signs with: by this signature; without one by `none`.
+pub(crate) fn answered_payload(
+    alloc: Global,
+    attempt: &Attempt,
+    key: AskedKey<'_>,
+    signature: Option<&[u8]>,
+) -> Result<Vec<u8>, Memory>
+    requires attempt { IsAttempt (attempt_data attempt.now) }
+    requires algorithm { length key.algorithm.now ≤ NAME_LIMIT }
+    requires blob { length key.blob.now ≤ BLOB_LIMIT }
+    requires signature { IfSome signature (λ s. length s.now ≤ SIGNATURE_LIMIT) }
+    ensures { IfOk result (λ made. IsMade (written_message (content.UserauthRequest (attempt_data attempt.now).user (attempt_data attempt.now).service
+        (signed_method key.entry.algorithm.now key.entry.blob.now (option_map (λ s. s.now) signature.entry)))) made.items) }
+{
+    match signature {
         None => method_payload(alloc, attempt, Method::None),
         Some(signature) => {
             let method = Method::PublicKey {
-                algorithm: algorithm.as_bytes(),
-                key: &key,
-                signature: &signature,
+                algorithm: key.algorithm.as_bytes(),
+                key: key.blob,
+                signature,
             };
             method_payload(alloc, attempt, method)
         }

@@ -2,34 +2,31 @@
 
 ghost use Rattle.std.specs.Prelude.{◌≡◌, ◌<◌, None, OnOk, Some, false, string_bytes, true};
 ghost use Rattle.std.specs.List.{list_all};
-ghost use Rattle.sshmsg.specs.View.{method_data};
 ghost use Rattle.sshmsg.specs.MessageData.{method_name};
-ghost use Rattle.sshcore.specs.Authenticating.{tried_key};
+ghost use Rattle.sshcore.specs.Authenticating.{HasName, tried_key};
 ghost use Rattle.sshcore.specs.EndpointConfig.{config_data};
 ghost use Rattle.sshcore.specs.StateData.{completed_methods_data, state_data};
 ghost use Rattle.sshcore.specs.CompletedMethods.{has_completed, is_complete, kept_completed, successful_completed};
+ghost use Rattle.sshcore.specs.QuestionsView.{claim_method};
 ghost use Rattle.sshcore.specs.Tries.{tried_with};
 
 use crate::config::Config;
+use crate::pending::Claim;
 use crate::session::UserKey;
 use crate::state::{CompletedMethods, State};
-use sshmsg::Method;
-use sshwire::{Memory, as_name};
+use sshwire::Memory;
 
 impl State<'_> {
     /// Keeps the key of a successful request, if it is signed.
-    pub(crate) fn keep_key(&mut self, method: &Method<'_>) -> Result<(), Memory>
-        ensures { OnOk result (state_data self.new ≡ record (state_data self.old) { carried = tried_key (state_data self.old).carried (method_data method.now) true }) }
+    pub(crate) fn keep_key(&mut self, claim: &Claim) -> Result<(), Memory>
+        requires { HasName (claim_method claim.now) }
+        ensures { OnOk result (state_data self.new ≡ record (state_data self.old) { carried = tried_key (state_data self.old).carried (claim_method claim.now) true }) }
     {
-        sshwire::names_law();
-        let Method::PublicKey { algorithm, key, .. } = method else {
+        let Claim::Key { algorithm, blob } = claim else {
             return Ok(());
         };
-        let Some(name) = as_name(algorithm) else {
-            return Ok(());
-        };
-        let algorithm = String::from_str(self.alloc, name)?;
-        let blob = Vec::from_slice(self.alloc, key)?;
+        let algorithm = String::from_str(self.alloc, algorithm)?;
+        let blob = Vec::from_slice(self.alloc, blob)?;
         self.user_key = Some(UserKey { algorithm, blob });
         Ok(())
     }
@@ -55,17 +52,16 @@ impl State<'_> {
         &mut self,
         user: &str,
         service: &str,
-        method: &Method<'_>,
+        claim: &Claim,
     ) -> Result<(), Memory>
         ensures { OnOk result (state_data self.new ≡ record (state_data self.old) {
           known = record (state_data self.old).known {
-            completed = successful_completed (state_data self.old).known.completed (tried_with user.now service.now (method_data method.now) true) (Some (method_name (method_data method.now)));
+            completed = successful_completed (state_data self.old).known.completed (tried_with user.now service.now (claim_method claim.now) true) (Some (method_name (claim_method claim.now)));
           };
         }) }
     {
-        let name = method.name();
-        let password = self.completed.password || name == b"password".as_slice();
-        let publickey = self.completed.publickey || name == b"publickey".as_slice();
+        let password = self.completed.password || claim.is_by("password");
+        let publickey = self.completed.publickey || claim.is_by("publickey");
         let user = String::from_str(self.alloc, user)?;
         let service = String::from_str(self.alloc, service)?;
         self.completed = CompletedMethods {

@@ -1,6 +1,6 @@
 //! Phase service: the request of the service of authentication, and its answer (RFC 4253 section 10).
 
-ghost use Rattle.std.specs.Prelude.{◌≡◌, ◌≤◌, Bool, OnOk, length, true};
+ghost use Rattle.std.specs.Prelude.{◌≡◌, ◌≤◌, Bool, None, OnOk, length, true};
 ghost use Rattle.sshpacket.specs.KeysData.{KeysData};
 ghost use Rattle.sshneg.specs.declared.side.Side.TheVariants.{Client, Server};
 ghost use Rattle.sshcore.specs.declared.end.Fault.TheVariants as fault;
@@ -9,10 +9,11 @@ ghost use Rattle.sshcore.specs.Brings.{Gives, IsOngoing, StandsAt, received_one}
 ghost use Rattle.sshcore.specs.EndpointConfig.{config_data, role_of};
 ghost use Rattle.sshcore.specs.EndData.{Failed, Open, by_input, end_data, goes};
 ghost use Rattle.sshcore.specs.StateData.{state_data};
-ghost use Rattle.sshcore.specs.Work.{accept_reply, banner_by, service_reply};
+ghost use Rattle.sshcore.specs.EndpointParts.{DecisionsData};
+ghost use Rattle.sshcore.specs.Step.{asked_in, settled};
+ghost use Rattle.sshcore.specs.Work.{accept_step, banner_by, service_reply};
 
 use crate::config::Config;
-use crate::decisions::Decisions;
 use crate::end::Fault;
 use crate::payloads::USERAUTH;
 use crate::phase_table::Phase;
@@ -80,19 +81,19 @@ impl State<'_> {
 
     /// A client is told that the service is accepted: it makes the first attempt of its plan; where the
     /// service isn't `ssh-userauth` it fails as `Unexpected(6)`.
-    pub(crate) fn receive_service_accept<S: Suite, D: Decisions>(
+    pub(crate) fn receive_service_accept<S: Suite>(
         &mut self,
         config: &Config<'_>,
         suite: &S,
-        decisions: &D,
         service: &[u8],
         sent: &mut Vec<u8>,
     ) -> Result<(), Memory>
         requires open { end_data self.old.end ≡ Open }
         requires at { self.old.phase ≡ phase.Service }
-        ensures gives { OnOk result ((strict : Bool) (next : KeysData)
+        requires calm { asked_in (accept_step (S.meaning suite.now) (state_data self.old).known service.now) ≡ None }
+        ensures gives { OnOk result ((d : DecisionsData) (strict : Bool) (next : KeysData)
             → Gives (S.meaning suite.now) (config_data config.now).seed strict next (state_data self.old) (state_data self.new) sent.old.items sent.new.items
-            (accept_reply (S.meaning suite.now) (D.policy decisions.now) (state_data self.old).known service.now)) }
+            (settled d (accept_step (S.meaning suite.now) (state_data self.old).known service.now))) }
         ensures carries { OnOk result ((state_data self.new).carried ≡ (state_data self.old).carried) }
         ensures stands { OnOk result (IsOngoing (state_data self.new).end
             → StandsAt (state_data self.new) phase.Auth (state_data self.old).guess (received_one (state_data self.old).known)) }
@@ -104,6 +105,6 @@ impl State<'_> {
         }
         self.phase = Phase::Auth;
         self.first = false;
-        self.make_attempt(config, suite, decisions, sent)
+        self.make_attempt(config, suite, sent)
     }
 }

@@ -17,13 +17,13 @@ pub enum Proof<'a> {
     None,
     /// A password that the user's side knows, any bytes (RFC 4252 section 8).
     Password(&'a [u8]),
-    /// A key (RFC 4252 section 7), of a signed request or of a query. Whether the user's side has its private key
-    /// isn't known: no signature was looked at. A yes says that this key is accepted for this user, and
-    /// by itself authenticates nobody: a signed request is successful if its signature is then verified, and a query never.
+    /// A key (RFC 4252 section 7): of a signed request, whose signature has been verified, or of a query, which has none. Which of
+    /// the two it is, [`Question::User`](crate::Question::User) tells, and [`Decisions::user`] doesn't. A yes says that this key is
+    /// accepted for this user: a signed request is then successful, and a query never.
     Key {
         /// The name of the key's algorithm, as the request has it, with which the suite signs. An endpoint compares
         /// it with no other: that it fits the names inside the key and the signature is for the suite's `verify` to
-        /// see, after the decision. So decide by the whole blob.
+        /// see. So decide by the whole blob.
         algorithm: &'a str,
         /// The public key, as the request has it.
         blob: &'a [u8],
@@ -44,11 +44,11 @@ pub trait Decisions {
     fn host_key(&self, algorithm: &str, blob: &[u8]) -> bool
         ensures { result ≡ (policy self.now).host_key algorithm.now blob.now };
 
-    /// Whether what a request claims is accepted for this user, of requests counted from 1 (RFC 4252 section 5);
-    /// of a query whether its key would do (section 7). It is asked before a signature is verified, which is done
-    /// after a yes alone, once. A yes to a request accepts the user, unless its signature is wrong, or methods
-    /// are required that aren't completed yet (section 5.1). It is asked of the method `none` too, whatever
-    /// methods the server lists: say no to `Proof::None` where nobody is accepted without a proof.
+    /// Whether what a request claims is accepted for this user, of requests and queries counted from 1 (RFC 4252 section 5); of a
+    /// query whether its key would do (section 7). Of a signed request it is asked after the signature has been verified, and not
+    /// at all if it is wrong. A yes to a request accepts the user, unless methods are required that aren't completed yet (section 5.1).
+    /// It is asked of the method `none` too, whatever methods the server lists: say no to `Proof::None` where nobody is accepted
+    /// without a proof.
     fn user(&self, request_number: u32, user: &str, service: &str, proof: &Proof<'_>) -> bool
         ensures { result ≡ (policy self.now).user request_number user.now service.now (proof_data proof.now) };
 
@@ -66,8 +66,8 @@ pub trait Decisions {
     ) -> Result<Option<Vec<u8>>, Memory>
         ensures { IfOk result (λ o. option_map (λ v. v.items) o ≡ (policy self.now).signature number algorithm.now blob.now input.now) };
 
-    /// Is told what the peer tells people, by a message before the endpoint answers that, or by a line before the
-    /// version line. It can't change what is answered. Does nothing, unless whoever decides has a body of its own.
+    /// Is told what the peer tells people: by a message before that asks or is answered, or by a line before the version line. It
+    /// can't change what is answered. Does nothing, unless whoever decides has a body of its own.
     fn notice(&self, notice: Notice<'_>) {
         let _ = notice;
     }

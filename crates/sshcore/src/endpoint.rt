@@ -20,9 +20,12 @@ ghost use Rattle.sshcore.specs.Redrawn.{redrawn_client, redrawn_server};
 ghost use Rattle.sshcore.specs.Sessions.{IsSession};
 ghost use Rattle.sshcore.specs.Shown.{ShowsTheSame};
 ghost use Rattle.sshcore.specs.EndpointData.{endpoint_setup};
+ghost use Rattle.sshcore.specs.Unread.{AnsweredBy, IsAsked};
+ghost use Rattle.sshcore.specs.WaitingView.{waiting_of};
 
 use crate::asking_answer::answer_packet;
-use crate::asking_given::Tells;
+use crate::asking_given::{Given, Tells};
+use crate::asking_waiting::Waiting;
 use crate::config::Config;
 use crate::config_client::ClientConfig;
 use crate::config_draws::Draws;
@@ -408,9 +411,40 @@ fn receive<S: Suite, D: Decisions>(
     let mut sent = Vec::new(state.alloc);
     let listener = Tells { decisions };
     let came = input.receive_asking(state, config, suite, &listener, piece, &mut sent)?;
-    if let Some(waiting) = &came.waiting {
-        answer_packet(input, state, config, suite, decisions, waiting, &mut sent)?;
-    }
+    answer_by(
+        input,
+        state,
+        config,
+        suite,
+        decisions,
+        &came.waiting,
+        &mut sent,
+    )?;
     out.extend_from_slice(&sent)?;
     Ok(came.used)
+}
+
+/// Answers the packet that waits, if one does, by these decisions.
+fn answer_by<S: Suite, D: Decisions>(
+    input: &mut Input,
+    state: &mut State<'_>,
+    config: &Config<'_>,
+    suite: &S,
+    decisions: &D,
+    waiting: &Option<Waiting>,
+    sent: &mut Vec<u8>,
+) -> Result<(), Memory>
+    requires asked { IfSome (waiting_of waiting.now) (IsAsked (S.meaning suite.now) (role_of config.now) (config_data config.now) (state_data state.old) input.old) }
+    requires reads { IsOngoing (end_data state.old.end) → CanRead (S.meaning suite.now) input.old }
+    ensures answered { OnOk result (AnsweredBy (S.meaning suite.now) (role_of config.now) (config_data config.now) (D.policy decisions.now) (waiting_of waiting.now)
+        input.old (state_data state.old) input.new (state_data state.new) sent.old.items sent.new.items) }
+    ensures turns { OnOk result (turns_left (end_data state.new.end) input.new ≤ turns_left (end_data state.old.end) input.old) }
+    ensures reads { OnOk result (IsOngoing (end_data state.new.end) → CanRead (S.meaning suite.now) input.new) }
+    ensures kept { OnOk result (by_input (end_data state.old.end) ≡ true → by_input (end_data state.new.end) ≡ true) }
+{
+    let Some(waiting) = waiting else {
+        return Ok(());
+    };
+    let given = Given::by(state.alloc, decisions, waiting.pending.question())?;
+    answer_packet(input, state, config, suite, waiting, given.answer(), sent)
 }

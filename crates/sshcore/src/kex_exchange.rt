@@ -1,7 +1,7 @@
 //! Phase exchange: the peer's share (RFC 4253 section 8, RFC 5656 section 4).
 
-ghost use Rattle.std.specs.Prelude.{◌≡◌, ◌≤◌, ◌<◌, IfOk, List, Ok, OnOk, Some, is_some, length, option_map, true, ℕ, Bool};
-ghost use Rattle.sshpacket.specs.declared.limits.TheConstants.{DIGEST_LIMIT, PACKET_LIMIT, SHARE_LIMIT};
+ghost use Rattle.std.specs.Prelude.{◌≡◌, ◌≤◌, ◌<◌, IfOk, IfSome, List, None, Ok, OnOk, Some, is_some, length, option_map, true, ℕ, Bool};
+ghost use Rattle.sshpacket.specs.declared.limits.TheConstants.{DIGEST_LIMIT, PACKET_LIMIT, SHARE_LIMIT, SIGNATURE_LIMIT};
 ghost use Rattle.sshpacket.specs.KeysData.{KeysData};
 ghost use Rattle.sshpacket.specs.Suite.{FitsShare, ResponseData, response_data};
 ghost use Rattle.sshneg.specs.declared.side.Side.TheVariants.{Server};
@@ -10,18 +10,20 @@ ghost use Rattle.sshcore.specs.declared.phase_table.Phase.TheVariants as phase;
 ghost use Rattle.sshcore.specs.Brings.{Gives};
 ghost use Rattle.sshcore.specs.EndpointConfig.{config_data, role_of};
 ghost use Rattle.sshcore.specs.EndData.{Failed, Open, by_input, end_data, goes};
-ghost use Rattle.sshcore.specs.Exchange.{share_read};
-ghost use Rattle.sshcore.specs.Exchanged.{AnswersInit, HasForm, ReceivesExchange, Signs};
+ghost use Rattle.sshcore.specs.EndpointParts.{DecisionsData};
+ghost use Rattle.sshcore.specs.Exchange.{secret_of, share_read};
+ghost use Rattle.sshcore.specs.Exchanged.{AnswersInit, HasForm, ReceivesExchange, exchange_of_message};
+ghost use Rattle.sshcore.specs.Prepared.{FitsPrepared, IsPrepared, IsPreparedBy};
 ghost use Rattle.sshcore.specs.StateData.{state_data, with_exchange};
 ghost use Rattle.sshcore.specs.History.{FitsPacket};
-ghost use Rattle.sshcore.specs.Work.{init_reply, told_by};
+ghost use Rattle.sshcore.specs.Step.{asked_in, settled};
+ghost use Rattle.sshcore.specs.Work.{init_step, signed_reply, told_by};
 
 use crate::config::Config;
-use crate::decisions::Decisions;
 use crate::end::Fault;
 use crate::payloads::{extensions_payload, reply_payload};
+use crate::pending::Prepared;
 use crate::phase_table::Phase;
-use crate::signing::{SigningKey, signature_by};
 use crate::state::State;
 use sshneg::Exchange;
 use sshpacket::{Keys, Response, Suite};
@@ -44,14 +46,6 @@ pub(crate) struct Shares<'a> {
     pub(crate) shared: &'a [u8],
 }
 
-/// A server's answer, the exchange hash that it signs, and its host key.
-#[derive(Drop)]
-pub(crate) struct Signed {
-    hash: Vec<u8>,
-    host_key: Vec<u8>,
-    reply: Vec<u8>,
-}
-
 /// The keys of both directions.
 #[derive(Drop)]
 pub(crate) struct BothKeys {
@@ -62,13 +56,13 @@ pub(crate) struct BothKeys {
 impl State<'_> {
     ghost use Rattle.sshmsg.specs.MessageData.{MessageData};
 
-    /// A server receives the client's share: it answers with its own and the signature of the exchange
-    /// hash, then with NEWKEYS. Fails as `Exchange` where the suite gives no shared secret.
-    pub(crate) fn receive_init<S: Suite, D: Decisions>(
+    /// A server receives the client's share and asks nothing: it answers with its own share and the signature of the exchange
+    /// hash, then with NEWKEYS. Fails as `Exchange` where the suite gives no shared secret: nothing else asks nothing where the
+    /// suite doesn't hold the host key.
+    pub(crate) fn receive_init<S: Suite>(
         &mut self,
         config: &Config<'_>,
         suite: &S,
-        decisions: &D,
         share: &[u8],
         sent: &mut Vec<u8>,
     ) -> Result<(), Memory>
@@ -76,25 +70,61 @@ impl State<'_> {
         requires at { self.old.phase ≡ phase.Exchange }
         requires server { role_of config.now ≡ Server }
         requires short { length share.now ≤ PACKET_LIMIT }
-        ensures receives { OnOk result ((message : MessageData) → share_read (Ok message) ≡ share.now → HasForm (S.meaning suite.now) (state_data self.old)
+        ensures receives { OnOk result ((d : DecisionsData) (message : MessageData) → share_read (Ok message) ≡ share.now
+            → asked_in (init_step (S.meaning suite.now) Server (config_data config.now) (state_data self.old).known message) ≡ None → HasForm (S.meaning suite.now) (state_data self.old)
             → ReceivesExchange (S.meaning suite.now) Server (config_data config.now) (state_data self.old) (state_data self.new) sent.old.items sent.new.items message
-            (init_reply (S.meaning suite.now) (D.policy decisions.now) Server (config_data config.now) (state_data self.old).known message)) }
+            (settled d (init_step (S.meaning suite.now) Server (config_data config.now) (state_data self.old).known message))) }
         ensures kept { OnOk result (by_input (end_data self.new.end) ≡ true) }
     {
-        match self.respond(config, suite, share)? {
+        let name = self.algorithms.as_ref().unwrap().host_key();
+        if !suite.holds(name, config.secret(name)) {
+            return self.fail(config, suite, Fault::Exchange, sent);
+        }
+        match self.prepare_init(config, suite, share)? {
             None => self.fail(config, suite, Fault::Exchange, sent),
+            Some(prepared) => {
+                let signature = self.sign_init(config, suite, &prepared)?;
+                self.answer_init(config, suite, &prepared, Some(&signature), sent)
+            }
+        }
+    }
+
+    /// What a server answers to this share, but for the signature: its own share and the shared secret, its host key, and the
+    /// exchange hash. None where the suite gives no shared secret.
+    pub(crate) fn prepare_init<S: Suite>(
+        &self,
+        config: &Config<'_>,
+        suite: &S,
+        share: &[u8],
+    ) -> Result<Option<Prepared>, Memory>
+        requires chosen { is_some self.now.algorithms ≡ true }
+        requires short { length share.now ≤ PACKET_LIMIT }
+        ensures { IfOk result (λ o. IsPreparedBy (S.meaning suite.now) (role_of config.now) (config_data config.now) (state_data self.now).known share.now o) }
+    {
+        answer_law(config, suite);
+        match self.respond(config, suite, share)? {
+            None => Ok(None),
             Some(response) => {
-                answer_law(config, suite);
-                match self.sign(config, suite, decisions, share, &response)? {
-                    None => self.fail(config, suite, Fault::Exchange, sent),
-                    Some(signed) => self.answer_init(config, suite, &response.shared, signed, sent),
-                }
+                let name = self.algorithms.as_ref().unwrap().host_key();
+                let host_key = suite.blob(self.alloc, name, config.secret(name))?;
+                let shares = Shares {
+                    host_key: &host_key,
+                    client_share: share,
+                    server_share: &response.share,
+                    shared: &response.shared,
+                };
+                let hash = self.hash(config, suite, &shares)?;
+                Ok(Some(Prepared {
+                    response,
+                    host_key,
+                    hash,
+                }))
             }
         }
     }
 
     /// The server's share and the shared secret.
-    pub(crate) fn respond<S: Suite>(
+    fn respond<S: Suite>(
         &self,
         config: &Config<'_>,
         suite: &S,
@@ -110,69 +140,78 @@ impl State<'_> {
         suite.respond(self.alloc, algorithms.kex(), random, share)
     }
 
-    /// The exchange hash, and the message that has its signature, where one is made.
-    fn sign<S: Suite, D: Decisions>(
+    /// The signature of the exchange hash by the host key.
+    fn sign_init<S: Suite>(
         &self,
         config: &Config<'_>,
         suite: &S,
-        decisions: &D,
-        share: &[u8],
-        response: &Response,
-    ) -> Result<Option<Signed>, Memory>
+        prepared: &Prepared,
+    ) -> Result<Vec<u8>, Memory>
         requires chosen { is_some self.now.algorithms ≡ true }
-        requires short { length share.now ≤ PACKET_LIMIT }
-        requires answer { (S.meaning suite.now).respond (state_data self.now).known.algorithms.kex (config_data config.now).random share.now ≡ Some (response_data response.now) }
-        ensures { IfOk result (λ o. Signs (S.meaning suite.now) (D.policy decisions.now) (role_of config.now) (config_data config.now) (state_data self.now).known share.now (response_data response.now) o) }
+        requires short { length prepared.now.hash.items ≤ DIGEST_LIMIT }
+        ensures signed { IfOk result (λ v. v.items ≡ (S.meaning suite.now).sign (state_data self.now).known.algorithms.host_key
+            (secret_of (config_data config.now).host_keys (state_data self.now).known.algorithms.host_key) prepared.now.hash.items) }
+        ensures short { IfOk result (λ v. length v.items ≤ SIGNATURE_LIMIT) }
     {
-        answer_law(config, suite);
-        let algorithms = self.algorithms.as_ref().unwrap();
-        let secret = config.secret(algorithms.host_key());
-        let host_key = suite.blob(self.alloc, algorithms.host_key(), secret)?;
-        let shares = Shares {
-            host_key: &host_key,
-            client_share: share,
-            server_share: &response.share,
-            shared: &response.shared,
-        };
-        let hash = self.hash(config, suite, &shares)?;
-        let key = SigningKey {
-            algorithm: algorithms.host_key(),
-            private_key: secret,
-            blob: &host_key,
-        };
-        let Some(signature) = signature_by(self.alloc, suite, decisions, 0, key, &hash)? else {
-            return Ok(None);
-        };
-        let form = suite.share_form(algorithms.kex());
-        let reply = reply_payload(self.alloc, form, &host_key, &response.share, &signature)?;
-        Ok(Some(Signed {
-            hash,
-            host_key,
-            reply,
-        }))
+        let name = self.algorithms.as_ref().unwrap().host_key();
+        suite.sign(self.alloc, name, config.secret(name), &prepared.hash)
     }
 
-    /// Sends the answer, NEWKEYS and what a client that asks is told, and stands after the exchange.
-    fn answer_init<S: Suite>(
+    /// Answers a client's share with this signature, NEWKEYS and what a client that asks is told. Fails as `Exchange` where
+    /// no signature was made.
+    pub(crate) fn answer_init<S: Suite>(
         &mut self,
         config: &Config<'_>,
         suite: &S,
-        shared: &[u8],
-        signed: Signed,
+        prepared: &Prepared,
+        signature: Option<&[u8]>,
         sent: &mut Vec<u8>,
     ) -> Result<(), Memory>
         requires open { end_data self.old.end ≡ Open }
         requires at { self.old.phase ≡ phase.Exchange }
-        requires reply { FitsPacket signed.reply.items }
-        requires hash { length signed.hash.items ≤ DIGEST_LIMIT }
-        requires shared { length shared.now ≤ SHARE_LIMIT }
-        ensures { OnOk result (AnswersInit (S.meaning suite.now) (role_of config.now) (config_data config.now) (state_data self.old) (state_data self.new) signed.host_key.items shared.now signed.hash.items signed.reply.items sent.old.items sent.new.items) }
+        requires server { role_of config.now ≡ Server }
+        requires fits { FitsPrepared (S.meaning suite.now) (state_data self.old).known prepared.now }
+        requires signature { IfSome signature (λ s. length s.now ≤ SIGNATURE_LIMIT) }
+        ensures receives { OnOk result ((message : MessageData) (share : List ℕ) → share_read (Ok message) ≡ share
+            → IsPrepared (S.meaning suite.now) (role_of config.now) (config_data config.now) (state_data self.old).known share prepared.now → HasForm (S.meaning suite.now) (state_data self.old)
+            → ReceivesExchange (S.meaning suite.now) Server (config_data config.now) (state_data self.old) (state_data self.new) sent.old.items sent.new.items message
+            (signed_reply (config_data config.now) (state_data self.old).known
+            (exchange_of_message (S.meaning suite.now) Server (config_data config.now) (state_data self.old).known message) (option_map (λ s. s.now) signature.entry))) }
+        ensures kept { OnOk result (by_input (end_data self.new.end) ≡ true) }
     {
-        let keys = self.both_keys(config, suite, shared, &signed.hash)?;
-        self.send(config, suite, &signed.reply, sent)?;
+        let Some(signature) = signature else {
+            return self.fail(config, suite, Fault::Exchange, sent);
+        };
+        let form = suite.share_form(self.algorithms.as_ref().unwrap().kex());
+        let share = &prepared.response.share;
+        let reply = reply_payload(self.alloc, form, &prepared.host_key, share, signature)?;
+        self.send_init_answer(config, suite, prepared, &reply, sent)
+    }
+
+    /// Sends the answer, NEWKEYS and what a client that asks is told, and stands after the exchange.
+    fn send_init_answer<S: Suite>(
+        &mut self,
+        config: &Config<'_>,
+        suite: &S,
+        prepared: &Prepared,
+        reply: &[u8],
+        sent: &mut Vec<u8>,
+    ) -> Result<(), Memory>
+        requires open { end_data self.old.end ≡ Open }
+        requires at { self.old.phase ≡ phase.Exchange }
+        requires reply { FitsPacket reply.now }
+        requires hash { length prepared.now.hash.items ≤ DIGEST_LIMIT }
+        requires shared { length prepared.now.response.shared.items ≤ SHARE_LIMIT }
+        ensures { OnOk result (AnswersInit (S.meaning suite.now) (role_of config.now) (config_data config.now) (state_data self.old) (state_data self.new)
+            prepared.now.host_key.items prepared.now.response.shared.items prepared.now.hash.items reply.now sent.old.items sent.new.items) }
+    {
+        let keys = self.both_keys(config, suite, &prepared.response.shared, &prepared.hash)?;
+        self.send(config, suite, reply, sent)?;
         self.send_new_keys(config, suite, keys.outgoing, sent)?;
         self.send_extensions(config, suite, sent)?;
-        self.stand_after_exchange(config, signed.hash, signed.host_key, keys.incoming)
+        let hash = Vec::from_slice(self.alloc, &prepared.hash)?;
+        let host_key = Vec::from_slice(self.alloc, &prepared.host_key)?;
+        self.stand_after_exchange(config, hash, host_key, keys.incoming)
     }
 
     /// Tells a client that asks the algorithms of users' keys, if the server has a list of them (RFC 8308 sections

@@ -11,11 +11,11 @@ ghost use Rattle.sshcore.specs.EndData.{Failed, Open, by_input, end_data};
 ghost use Rattle.sshcore.specs.Exchange.{host_key_read, share_read};
 ghost use Rattle.sshcore.specs.Exchanged.{AcceptsReply, HasForm, JudgesReply, ReceivesExchange, client_shares, exchanged};
 ghost use Rattle.sshcore.specs.StateData.{state_data};
-ghost use Rattle.sshcore.specs.Work.{reply_reply};
-ghost use Rattle.sshcore.specs.EndpointParts.{setup_with};
+ghost use Rattle.sshcore.specs.EndpointParts.{DecisionsData};
+ghost use Rattle.sshcore.specs.Step.{settled};
+ghost use Rattle.sshcore.specs.Work.{reply_step};
 
 use crate::config::Config;
-use crate::decisions::Decisions;
 use crate::end::Fault;
 use crate::kex_exchange::{KexReply, Shares};
 use crate::payloads::{USERAUTH, payload_of};
@@ -28,15 +28,15 @@ use sshwire::Memory;
 impl State<'_> {
     ghost use Rattle.sshmsg.specs.MessageData.{MessageData};
 
-    /// A client receives the server's share: it asks whether the host key is trusted (else `HostKey`), then
+    /// A client receives the server's share, whose host key is trusted or not (else `HostKey`): it
     /// makes the shared secret (`Exchange` where the suite gives none), then verifies the signature of
     /// the exchange hash (else `Signature`); then it sends NEWKEYS and requests the service.
-    pub(crate) fn receive_reply<S: Suite, D: Decisions>(
+    pub(crate) fn receive_reply<S: Suite>(
         &mut self,
         config: &Config<'_>,
         suite: &S,
-        decisions: &D,
         reply: &KexReply<'_>,
+        trusted: bool,
         sent: &mut Vec<u8>,
     ) -> Result<(), Memory>
         requires open { end_data self.old.end ≡ Open }
@@ -45,15 +45,16 @@ impl State<'_> {
         requires host_key { length reply.now.host_key.now ≤ PACKET_LIMIT }
         requires share { length reply.now.share.now ≤ PACKET_LIMIT }
         requires signature { length reply.now.signature.now ≤ PACKET_LIMIT }
-        ensures receives { OnOk result ((message : MessageData) → share_read (Ok message) ≡ reply.now.share.now → host_key_read (Ok message) ≡ reply.now.host_key.now → HasForm (S.meaning suite.now) (state_data self.old)
+        ensures receives { OnOk result ((d : DecisionsData) (message : MessageData) → d.host_key (state_data self.old).known.algorithms.host_key reply.now.host_key.now ≡ trusted
+            → share_read (Ok message) ≡ reply.now.share.now → host_key_read (Ok message) ≡ reply.now.host_key.now → HasForm (S.meaning suite.now) (state_data self.old)
             → ReceivesExchange (S.meaning suite.now) Client (config_data config.now) (state_data self.old) (state_data self.new) sent.old.items sent.new.items message
-            (reply_reply (setup_with (S.meaning suite.now) (D.policy decisions.now) Client (config_data config.now)) (state_data self.old).known message reply.now.signature.now)) }
+            (settled d (reply_step (S.meaning suite.now) Client (config_data config.now) (state_data self.old).known message reply.now.signature.now))) }
         ensures kept { OnOk result (by_input (end_data self.new.end) ≡ true) }
     {
-        let algorithms = self.algorithms.as_ref().unwrap();
-        if !decisions.host_key(algorithms.host_key(), reply.host_key) {
+        if !trusted {
             return self.fail(config, suite, Fault::HostKey, sent);
         }
+        let algorithms = self.algorithms.as_ref().unwrap();
         let random = config.exchange_random();
         match suite.shared(self.alloc, algorithms.kex(), random, reply.share)? {
             None => self.fail(config, suite, Fault::Exchange, sent),

@@ -1,6 +1,6 @@
 //! What the peer tells people.
 
-use crate::decisions::Decisions;
+use crate::asking_given::Listener;
 use sshmsg::Message;
 use sshwire::{LINE_LIMIT, NameList};
 
@@ -50,13 +50,13 @@ pub enum Notice<'a> {
 }
 
 /// Tells whoever runs the endpoint what a message tells people, if it says something.
-pub(crate) fn give_notice<D: Decisions>(decisions: &D, message: &Message<'_>) {
+pub(crate) fn give_notice<L: Listener>(listener: &L, message: &Message<'_>) {
     match message {
         Message::Disconnect {
             reason,
             description,
             language,
-        } => decisions.notice(Notice::Disconnect {
+        } => listener.notice(Notice::Disconnect {
             reason: *reason,
             description,
             language,
@@ -65,14 +65,14 @@ pub(crate) fn give_notice<D: Decisions>(decisions: &D, message: &Message<'_>) {
             always_display: true,
             text,
             language,
-        } => decisions.notice(Notice::Debug { text, language }),
+        } => listener.notice(Notice::Debug { text, language }),
         Message::UserauthBanner { text, language } => {
-            decisions.notice(Notice::Banner { text, language })
+            listener.notice(Notice::Banner { text, language })
         }
         Message::UserauthFailure {
             methods,
             partial_success,
-        } => decisions.notice(Notice::Failure {
+        } => listener.notice(Notice::Failure {
             methods,
             partial_success: *partial_success,
         }),
@@ -116,20 +116,20 @@ pub(crate) fn line_of(begun: &[u8]) -> Gathered {
 
 /// Tells whoever runs the endpoint the lines that end in these bytes, which were taken, but one that begins with `SSH-`:
 /// it is the version line, or refused. Of the first, the line came before.
-pub(crate) fn give_lines<D: Decisions>(decisions: &D, begun: Gathered, taken: &[u8]) {
+pub(crate) fn give_lines<L: Listener>(listener: &L, begun: Gathered, taken: &[u8]) {
     let mut line = begun;
     for byte in taken {
         if *byte != b'\n' {
             line.push(*byte);
         } else if !line.text().starts_with(b"SSH-") {
-            give_line(decisions, line.text());
+            give_line(listener, line.text());
             line.len = 0;
         }
     }
 }
 
 /// Tells whoever runs the endpoint a line before the version line.
-fn give_line<D: Decisions>(decisions: &D, line: &[u8]) {
+fn give_line<L: Listener>(listener: &L, line: &[u8]) {
     let text = line.strip_suffix(b"\r").unwrap_or(line);
-    decisions.notice(Notice::Line { text });
+    listener.notice(Notice::Line { text });
 }

@@ -1,71 +1,60 @@
-//! What becomes of a packet, by the phase table.
+//! What an endpoint does with a packet that asks nothing, and with an answer.
 
-ghost use Rattle.std.specs.Prelude.{◌≡◌, ◌≤◌, OnOk, false, length, true};
-ghost use Rattle.sshmsg.specs.Messages.{message_in};
-ghost use Rattle.sshmsg.specs.Numbers.{message_number};
+ghost use Rattle.std.specs.Prelude.{◌≡◌, ◌≤◌, List, OnOk, false, length, true, ℕ};
+ghost use Rattle.sshmsg.specs.MessageData.{MessageData};
+ghost use Rattle.sshmsg.specs.Messages.{Spells};
 ghost use Rattle.sshpacket.specs.declared.limits.TheConstants.{PACKET_LIMIT};
 ghost use Rattle.sshcore.specs.declared.end.Fault.TheVariants as fault;
-ghost use Rattle.sshcore.specs.declared.phase_table.Disposition.TheVariants as disposition;
 ghost use Rattle.sshcore.specs.Brings.{Brings, Works, received_one};
-ghost use Rattle.sshcore.specs.EndpointConfig.{role_of, setup_of};
+ghost use Rattle.sshcore.specs.EndpointConfig.{config_data, role_of, setup_of};
+ghost use Rattle.sshcore.specs.EndpointParts.{DecisionsData};
 ghost use Rattle.sshcore.specs.EndData.{Failed, Open, by_input, end_data};
 ghost use Rattle.sshcore.specs.Exchanged.{HasForm};
+ghost use Rattle.sshcore.specs.Judging.{IsJudged, IsPending, is_at_once};
+ghost use Rattle.sshcore.specs.Questions.{decided, taken};
+ghost use Rattle.sshcore.specs.QuestionsView.{answer_data, pending_question};
 ghost use Rattle.sshcore.specs.StateData.{state_data};
-ghost use Rattle.sshcore.specs.Replies.{read_reply};
-ghost use Rattle.sshcore.specs.Plan.{is_waiting};
-ghost use Rattle.sshcore.specs.Table.{disposition_by};
 ghost use Rattle.sshcore.specs.Work.{work};
 
+use crate::asking_given::{Answer, is_yes, signature_in};
+use crate::auth_client_payloads::AskedKey;
 use crate::config::Config;
-use crate::decisions::Decisions;
-use crate::end::Fault;
-use crate::packet_dispositions::{disposition_of, message_number};
-use crate::phase_table::Disposition;
+use crate::judging::Judged;
+use crate::kex_exchange::KexReply;
+use crate::pending::Pending;
 use crate::state::State;
-use sshmsg::{MsgFault, read_exchange};
 use sshpacket::Suite;
 use sshwire::Memory;
 
 impl State<'_> {
-    /// Receives a packet with this number: its line of the phase table says what becomes of it. One that says
-    /// nothing is taken only within what may still come of such.
-    pub(crate) fn receive<S: Suite, D: Decisions>(
+    /// Receives a packet with this number that was judged so, and asks nothing.
+    pub(crate) fn receive<S: Suite>(
         &mut self,
         config: &Config<'_>,
         suite: &S,
-        decisions: &D,
+        judged: &Judged<'_>,
         payload: &[u8],
         packet: u32,
         sent: &mut Vec<u8>,
     ) -> Result<(), Memory>
         requires open { end_data self.old.end ≡ Open }
         requires short { length payload.now ≤ PACKET_LIMIT }
-        ensures brings { OnOk result (HasForm (S.meaning suite.now) (state_data self.old)
-            → Brings (setup_of (S.meaning suite.now) (D.policy decisions.now) config.now) (state_data self.old) (state_data self.new) packet payload.now sent.old.items sent.new.items) }
+        requires judged { IsJudged (S.meaning suite.now) (role_of config.now) (config_data config.now) (state_data self.old) payload.now judged.now }
+        requires calm { is_at_once judged.now ≡ true }
+        ensures brings { OnOk result ((d : DecisionsData) → HasForm (S.meaning suite.now) (state_data self.old)
+            → Brings (setup_of (S.meaning suite.now) d config.now) (state_data self.old) (state_data self.new) packet payload.now sent.old.items sent.new.items) }
         ensures kept { OnOk result (by_input (end_data self.new.end) ≡ true) }
     {
-        let number = message_number(payload);
-        let waits = self.waits();
-        let disposition = disposition_of(
-            config.role(),
-            self.phase,
-            self.strict,
-            self.guess,
-            waits,
-            number,
-        );
-        if self.takes_too_much(disposition, payload) {
-            return self.fail(config, suite, Fault::TooMuchIgnored, sent);
-        }
-        match disposition {
-            Disposition::Reads => self.read(config, suite, decisions, payload, sent),
-            Disposition::Drops => {
+        sshmsg::messages_law();
+        match judged {
+            Judged::Drops => {
                 self.drop_guess();
                 Ok(())
             }
-            Disposition::Deviates => self.fail(config, suite, Fault::Strict(number), sent),
-            Disposition::Unknown => self.tell_unknown(config, suite, payload, packet, sent),
-            Disposition::Unexpected => self.fail(config, suite, Fault::Unexpected(number), sent),
+            Judged::Fails(fault) => self.fail(config, suite, *fault, sent),
+            Judged::Unknown => self.tell_unknown(config, suite, payload, packet, sent),
+            Judged::Reads(message) => self.work(config, suite, payload, message, sent),
+            Judged::Asks(..) => unreachable!(),
         }
     }
 
@@ -77,32 +66,61 @@ impl State<'_> {
         self.first = false;
     }
 
-    /// Reads a packet that has a place, and answers it; fails as `Malformed` where it can't be read.
-    fn read<S: Suite, D: Decisions>(
+    /// Answers a packet that asked, by this answer.
+    pub(crate) fn answer<S: Suite>(
         &mut self,
         config: &Config<'_>,
         suite: &S,
-        decisions: &D,
-        payload: &[u8],
+        pending: &Pending,
+        answer: Answer<'_>,
         sent: &mut Vec<u8>,
     ) -> Result<(), Memory>
         requires open { end_data self.old.end ≡ Open }
-        requires short { length payload.now ≤ PACKET_LIMIT }
-        requires reads { disposition_by (role_of config.now) self.old.phase self.old.strict self.old.guess (is_waiting (state_data self.old).known.left) (message_number payload.now) ≡ disposition.Reads }
-        ensures works { OnOk result (HasForm (S.meaning suite.now) (state_data self.old)
-            → Works (setup_of (S.meaning suite.now) (D.policy decisions.now) config.now) (state_data self.old) (state_data self.new) payload.now sent.old.items sent.new.items
-            (read_reply (setup_of (S.meaning suite.now) (D.policy decisions.now) config.now) (state_data self.old).known (message_number payload.now) (message_in self.old.shares payload.now))) }
+        requires asks { (payload : List ℕ) × (message : MessageData) × IsPending (S.meaning suite.now) (role_of config.now) (config_data config.now) (state_data self.old) payload message pending.now }
+        // All decisions that answer so answer the packet so.
+        ensures works { OnOk result ((payload : List ℕ) (message : MessageData) (d : DecisionsData)
+            → IsPending (S.meaning suite.now) (role_of config.now) (config_data config.now) (state_data self.old) payload message pending.now
+            → decided d (pending_question pending.now) ≡ taken (pending_question pending.now) (answer_data answer.entry) → HasForm (S.meaning suite.now) (state_data self.old)
+            → Works (setup_of (S.meaning suite.now) d config.now) (state_data self.old) (state_data self.new) payload sent.old.items sent.new.items
+            (work (setup_of (S.meaning suite.now) d config.now) (state_data self.old).known message)) }
         ensures kept { OnOk result (by_input (end_data self.new.end) ≡ true) }
     {
-        match read_exchange(self.alloc, payload, self.shares) {
-            Ok(message) => self.work(config, suite, decisions, payload, &message, sent),
-            Err(MsgFault::Memory) => Err(Memory),
-            Err(_) => self.fail(
-                config,
-                suite,
-                Fault::Malformed(message_number(payload)),
-                sent,
-            ),
+        sshmsg::messages_law();
+        sshmsg::numbers_law();
+        match pending {
+            Pending::Reply {
+                host_key,
+                share,
+                signature,
+                ..
+            } => {
+                let reply = KexReply {
+                    host_key,
+                    share,
+                    signature,
+                };
+                self.receive_reply(config, suite, &reply, is_yes(answer), sent)
+            }
+            Pending::Init { prepared, .. } => {
+                self.answer_init(config, suite, prepared, signature_in(answer), sent)
+            }
+            Pending::Request {
+                user,
+                service,
+                claim,
+                ..
+            } => self.decide(config, suite, user, service, claim, is_yes(answer), sent),
+            Pending::Attempt {
+                skipped,
+                confirms,
+                algorithm,
+                blob,
+                ..
+            } => {
+                let key = AskedKey { algorithm, blob };
+                let signature = signature_in(answer);
+                self.answer_attempt(config, suite, *skipped, *confirms, key, signature, sent)
+            }
         }
     }
 }

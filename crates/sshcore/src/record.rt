@@ -3,8 +3,8 @@
 ghost use Rattle.std.specs.Prelude.{◌≡◌, IfOk, IfSome, IsUtf8, is_some, option_map, true};
 ghost use Rattle.sshcore.specs.EndData.{Open};
 ghost use Rattle.sshcore.specs.Paused.{paused_end};
-ghost use Rattle.sshcore.specs.Record.{HasKeyNames, HasLine, HasNames, HasTexts, HasUserText, IsRecordOf, authentication_of, exchange_of, missing_by, packet_of, reader_of, record_of};
-ghost use Rattle.sshcore.specs.RecordView.{authentication_record, carried_record, exchange_record, lent_keys, lent_names, packet_record, reader_record, record_data, sending_record};
+ghost use Rattle.sshcore.specs.Record.{HasKeyNames, HasLine, HasNames, HasTexts, HasUserText, IsRecordOf, authentication_of, exchange_of, missing_by, payload_of, reader_of, record_of};
+ghost use Rattle.sshcore.specs.RecordView.{authentication_record, carried_record, exchange_record, lent_keys, lent_names, reader_record, record_data, sending_record};
 ghost use Rattle.sshcore.specs.StateData.{state_data};
 ghost use Rattle.sshcore.specs.WaitingView.{waiting_of};
 
@@ -16,7 +16,7 @@ use crate::kex_algorithms::Algorithms;
 use crate::record_fault::RECORD_LIMIT;
 use crate::record_parts::{
     AuthenticationParts, CarriedParts, ExchangeParts, LentKeys, LentNames, LentUserKey,
-    ReaderParts, RecordParts, SendingParts, WaitingParts,
+    ReaderParts, RecordParts, SendingParts,
 };
 use crate::record_writing::put_record;
 use crate::state::State;
@@ -149,15 +149,14 @@ fn missing_by(input: &Input, waiting: &Option<Waiting>) -> usize
     }
 }
 
-/// The packet that waits.
-fn waiting_parts(waiting: &Option<Waiting>) -> Option<WaitingParts<'_>>
-    ensures { option_map packet_record result ≡ option_map packet_of (waiting_of waiting.now) }
+/// The payload of the packet that waits.
+fn waiting_payload(waiting: &Option<Waiting>) -> Option<&[u8]>
+    ensures { option_map (λ payload. payload.now) result ≡ option_map payload_of (waiting_of waiting.now) }
 {
-    let waiting = waiting.as_ref()?;
-    Some(WaitingParts {
-        number: waiting.packet,
-        payload: &waiting.payload,
-    })
+    match waiting {
+        Some(waiting) => Some(&waiting.payload),
+        None => None,
+    }
 }
 
 impl<S> PausedEndpoint<S> {
@@ -185,7 +184,7 @@ impl<S> PausedEndpoint<S> {
             carried: carried_parts(state),
             sending: sending_parts(state),
             reader: reader_parts(&self.input),
-            waiting: waiting_parts(&self.waiting),
+            waiting: waiting_payload(&self.waiting),
         })
     }
 

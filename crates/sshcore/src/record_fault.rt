@@ -3,7 +3,7 @@
 use sshwire::Memory;
 
 /// The version of the records that this crate writes and reads.
-pub const RECORD_VERSION: u32 = 3;
+pub const RECORD_VERSION: u32 = 4;
 
 /// How many bytes a record has at most. As a rule it has 2,000; the longest have the peer's KEXINIT, an unfinished packet, and a host
 /// key, or a user's name and key, each of up to 35,000 bytes.

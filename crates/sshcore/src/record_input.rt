@@ -8,7 +8,7 @@ ghost use Rattle.sshpacket.specs.Parse.{parse_packet, protection, unfinished};
 ghost use Rattle.sshcore.specs.Inputs.{CanRead};
 ghost use Rattle.sshcore.specs.Record.{HasLine, IsMadeSo};
 ghost use Rattle.sshcore.specs.RecordMade.{IsInputOf, IsReaderOf, missing_in};
-ghost use Rattle.sshcore.specs.RecordView.{packet_record, reader_record};
+ghost use Rattle.sshcore.specs.RecordView.{reader_record};
 
 use crate::input::Input;
 use crate::record_fault::RecordFault;
@@ -66,7 +66,7 @@ pub(crate) fn input_of<S: Suite>(
 ) -> Result<Input, RecordFault>
     ensures reads { IfOk result (λ i. CanRead (S.meaning suite.now) i) }
     ensures made { HasLine (reader_record parts.now.reader) → IsReaderOf (S.meaning suite.now) (reader_record parts.now.reader)
-        → parts.now.missing ≡ missing_in (S.meaning suite.now) (reader_record parts.now.reader) (option_map packet_record parts.now.waiting)
+        → parts.now.missing ≡ missing_in (S.meaning suite.now) (reader_record parts.now.reader) (option_map (λ payload. payload.now) parts.now.waiting)
         → IsMadeSo (IsInputOf form (reader_record parts.now.reader)) result }
 {
     let input = reader_of(alloc, &parts.reader, suite, form)?;

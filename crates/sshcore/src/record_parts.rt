@@ -105,13 +105,6 @@ impl<'a> ReaderParts<'a> {
     }
 }
 
-/// The packet that waits for its answer.
-#[derive(Clone, Copy)]
-pub(crate) struct WaitingParts<'a> {
-    pub(crate) number: u32,
-    pub(crate) payload: &'a [u8],
-}
-
 /// All of it.
 #[derive(Clone, Copy)]
 pub(crate) struct RecordParts<'a> {
@@ -127,5 +120,6 @@ pub(crate) struct RecordParts<'a> {
     pub(crate) carried: CarriedParts<'a>,
     pub(crate) sending: SendingParts<'a>,
     pub(crate) reader: ReaderParts<'a>,
-    pub(crate) waiting: Option<WaitingParts<'a>>,
+    /// The payload of the packet that waits for its answer.
+    pub(crate) waiting: Option<&'a [u8]>,
 }

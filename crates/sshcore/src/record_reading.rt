@@ -4,14 +4,14 @@ ghost use Rattle.std.specs.Prelude.{⊤, ◌≡◌, ◌≢◌, ◌<◌, ◌^◌,
 ghost use Rattle.sshcore.specs.declared.record_fault.TheConstants.{RECORD_VERSION};
 ghost use Rattle.sshcore.specs.RecordData.{RecordData, held_in};
 ghost use Rattle.sshcore.specs.RecordReads.{Reads};
-ghost use Rattle.sshcore.specs.RecordText.{FitsAuthentication, FitsCarried, FitsExchange, FitsKeys, FitsNames, FitsPacketRecord, FitsReader, FitsRecord, FitsSending, FitsUserKey, IsShort, authentication_text, bytes_text, carried_text, exchange_text, flag_text, form_number, keys_text, names_text, number_text, option_text, packet_text, phase_number, reader_text, record_bytes, record_text, role_number, sending_text, user_key_text, waits_text};
-ghost use Rattle.sshcore.specs.RecordView.{authentication_record, carried_record, exchange_record, lent_keys, lent_names, lent_user_key, packet_record, reader_record, record_data, sending_record};
+ghost use Rattle.sshcore.specs.RecordText.{FitsAuthentication, FitsCarried, FitsExchange, FitsKeys, FitsNames, FitsReader, FitsRecord, FitsSending, FitsUserKey, IsShort, authentication_text, bytes_text, carried_text, exchange_text, flag_text, form_number, keys_text, names_text, number_text, option_text, phase_number, reader_text, record_bytes, record_text, role_number, sending_text, user_key_text, waits_text};
+ghost use Rattle.sshcore.specs.RecordView.{authentication_record, carried_record, exchange_record, lent_keys, lent_names, lent_user_key, reader_record, record_data, sending_record};
 
 use crate::phase_table::Phase;
 use crate::record_fault::RECORD_VERSION;
 use crate::record_parts::{
     AuthenticationParts, CarriedParts, ExchangeParts, LentKeys, LentNames, LentUserKey,
-    ReaderParts, RecordParts, SendingParts, WaitingParts,
+    ReaderParts, RecordParts, SendingParts,
 };
 use sshneg::Side;
 use sshpacket::ShareForm;
@@ -264,16 +264,14 @@ impl<'a> RecordReader<'a> {
         }
     }
 
-    /// The packet that waits, if one does.
-    fn waiting(&mut self) -> Option<WaitingParts<'a>>
-        ensures { Reads (option_text packet_text) (λ packet. IfSome packet FitsPacketRecord) self.old (option_map packet_record result) self.new }
+    /// The payload of the packet that waits, if one does.
+    fn waiting(&mut self) -> Option<&'a [u8]>
+        ensures { Reads (option_text bytes_text) (λ payload. IfSome payload IsShort) self.old (option_map (λ payload. payload.now) result) self.new }
     {
         if !self.flag() {
             return None;
         }
-        let number = self.number();
-        let payload = self.bytes();
-        Some(WaitingParts { number, payload })
+        Some(self.bytes())
     }
 
     /// The version of records has to stand at the front.

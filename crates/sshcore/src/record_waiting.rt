@@ -4,9 +4,8 @@ ghost use Rattle.std.specs.Prelude.{◌≡◌, IfOk, IsTrue, ◌↔◌, Option, 
 ghost use Rattle.sshcore.specs.AskingData.{WaitingData};
 ghost use Rattle.sshcore.specs.EndData.{Open, end_data};
 ghost use Rattle.sshcore.specs.EndpointConfig.{config_data, role_of};
-ghost use Rattle.sshcore.specs.Record.{IsMadeSo, packet_of};
+ghost use Rattle.sshcore.specs.Record.{IsMadeSo, payload_of};
 ghost use Rattle.sshcore.specs.RecordMade.{IsSameWaiting};
-ghost use Rattle.sshcore.specs.RecordView.{packet_record};
 ghost use Rattle.sshcore.specs.StateData.{state_data};
 ghost use Rattle.sshcore.specs.Unread.{IsAskedBy, IsIdle};
 ghost use Rattle.sshcore.specs.WaitingView.{waiting_of};
@@ -15,7 +14,6 @@ use crate::asking_waiting::Waiting;
 use crate::config::Config;
 use crate::input::Input;
 use crate::record_fault::RecordFault;
-use crate::record_parts::WaitingParts;
 use crate::state::State;
 use sshpacket::{PACKET_LIMIT, Suite};
 
@@ -35,33 +33,31 @@ pub(crate) fn waiting_by<S: Suite>(
     suite: &S,
     state: &State<'_>,
     input: &Input,
-    waiting: Option<WaitingParts<'_>>,
+    waiting: Option<&[u8]>,
 ) -> Result<Option<Waiting>, RecordFault>
     requires open { end_data state.now.end ≡ Open }
     ensures asked { IfOk result (λ w. IsAskedBy (S.meaning suite.now) (role_of config.now) (config_data config.now) (state_data state.now) input.now (waiting_of w)) }
     ensures made { (v : Option WaitingData) → IsAskedBy (S.meaning suite.now) (role_of config.now) (config_data config.now) (state_data state.now) input.now v
-        → option_map packet_of v ≡ option_map packet_record waiting.entry → IsMadeSo (λ w. IsSameWaiting v (waiting_of w)) result }
+        → option_map payload_of v ≡ option_map (λ payload. payload.now) waiting.entry → IsMadeSo (λ w. IsSameWaiting v (waiting_of w)) result }
 {
-    let Some(parts) = waiting else {
+    sshmsg::messages_law();
+    let Some(payload) = waiting else {
         return Ok(None);
     };
-    if parts.payload.len() > PACKET_LIMIT {
+    if payload.len() > PACKET_LIMIT {
         return Err(RecordFault::Unreadable);
     }
     if !is_idle(input) {
         return Err(RecordFault::Unreadable);
     }
-    let Ok(prepared) = state.prepare(config, suite, parts.payload) else {
+    let Ok(judged) = state.judge(config, suite, payload) else {
         return Err(RecordFault::Memory);
     };
-    match state.asked_prepared(config, suite, &prepared, parts.payload) {
-        Ok(None) => Err(RecordFault::Unreadable),
-        Ok(Some(asked)) => {
-            match Waiting::new(state.alloc, parts.number, parts.payload, asked, prepared) {
-                Ok(waiting) => Ok(Some(waiting)),
-                Err(_) => Err(RecordFault::Memory),
-            }
-        }
+    let Some(pending) = judged.pending() else {
+        return Err(RecordFault::Unreadable);
+    };
+    match Waiting::new(state.alloc, payload, pending) {
+        Ok(waiting) => Ok(Some(waiting)),
         Err(_) => Err(RecordFault::Memory),
     }
 }

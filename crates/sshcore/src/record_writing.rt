@@ -1,14 +1,14 @@
 //! Writes the record of a paused endpoint.
 
 ghost use Rattle.std.specs.Prelude.{◌≡◌, ◌<◌, ◌^◌, ◌++◌, IfSome, OnOk, length, option_map};
-ghost use Rattle.sshcore.specs.RecordText.{Adds, FitsAuthentication, FitsCarried, FitsExchange, FitsKeys, FitsNames, FitsPacketRecord, FitsReader, FitsRecord, FitsSending, FitsUserKey, IsShort, authentication_text, bytes_text, carried_text, exchange_text, flag_text, form_number, front_text, keys_text, names_text, number_text, option_text, packet_text, phase_number, reader_text, record_text, role_number, sending_text, user_key_text, waits_text};
-ghost use Rattle.sshcore.specs.RecordView.{authentication_record, carried_record, exchange_record, lent_keys, lent_names, lent_user_key, packet_record, reader_record, record_data, sending_record};
+ghost use Rattle.sshcore.specs.RecordText.{Adds, FitsAuthentication, FitsCarried, FitsExchange, FitsKeys, FitsNames, FitsReader, FitsRecord, FitsSending, FitsUserKey, IsShort, authentication_text, bytes_text, carried_text, exchange_text, flag_text, form_number, front_text, keys_text, names_text, number_text, option_text, phase_number, reader_text, record_text, role_number, sending_text, user_key_text, waits_text};
+ghost use Rattle.sshcore.specs.RecordView.{authentication_record, carried_record, exchange_record, lent_keys, lent_names, lent_user_key, reader_record, record_data, sending_record};
 
 use crate::phase_table::Phase;
 use crate::record_fault::RECORD_VERSION;
 use crate::record_parts::{
     AuthenticationParts, CarriedParts, ExchangeParts, LentKeys, LentNames, LentUserKey,
-    ReaderParts, RecordParts, SendingParts, WaitingParts,
+    ReaderParts, RecordParts, SendingParts,
 };
 use sshneg::Side;
 use sshpacket::ShareForm;
@@ -168,17 +168,16 @@ fn put_reader(out: &mut Vec<u8>, reader: &ReaderParts<'_>) -> Result<(), Memory>
     }
 }
 
-/// Appends the packet that waits, where one does.
-fn put_waiting(out: &mut Vec<u8>, waiting: Option<WaitingParts<'_>>) -> Result<(), Memory>
-    ensures adds { OnOk result (Adds (option_text packet_text (option_map packet_record waiting.entry)) out.old.items out.new.items) }
-    ensures fits { OnOk result (IfSome (option_map packet_record waiting.entry) FitsPacketRecord) }
+/// Appends the payload of the packet that waits, where one does.
+fn put_waiting(out: &mut Vec<u8>, waiting: Option<&[u8]>) -> Result<(), Memory>
+    ensures adds { OnOk result (Adds (option_text bytes_text (option_map (λ payload. payload.now) waiting.entry)) out.old.items out.new.items) }
+    ensures fits { OnOk result (IfSome (option_map (λ payload. payload.now) waiting.entry) IsShort) }
 {
-    let Some(waiting) = waiting else {
+    let Some(payload) = waiting else {
         return put_number(out, 0);
     };
     put_number(out, 1)?;
-    put_number(out, waiting.number)?;
-    put_bytes(out, waiting.payload)
+    put_bytes(out, payload)
 }
 
 /// Appends what stands in front: the version of records, how many bytes more are wanted before anything comes of them, and the bytes of

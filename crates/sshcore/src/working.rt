@@ -1,6 +1,6 @@
 //! What a message that has a place does, by the phase that it has it in.
 
-ghost use Rattle.std.specs.Prelude.{◌≡◌, ◌≤◌, OnOk, false, length, true};
+ghost use Rattle.std.specs.Prelude.{◌≡◌, ◌≤◌, None, OnOk, false, length, true};
 ghost use Rattle.sshmsg.specs.Messages.{Spells};
 ghost use Rattle.sshmsg.specs.Numbers.{message_number, number_of};
 ghost use Rattle.sshmsg.specs.View.{message_data};
@@ -8,21 +8,20 @@ ghost use Rattle.sshpacket.specs.declared.limits.TheConstants.{PACKET_LIMIT};
 ghost use Rattle.sshcore.specs.declared.end.Fault.TheVariants as fault;
 ghost use Rattle.sshcore.specs.declared.phase_table.Disposition.TheVariants as disposition;
 ghost use Rattle.sshcore.specs.Brings.{Works};
-ghost use Rattle.sshcore.specs.EndpointConfig.{role_of, setup_of};
+ghost use Rattle.sshcore.specs.EndpointConfig.{config_data, role_of, setup_of};
+ghost use Rattle.sshcore.specs.EndpointParts.{DecisionsData};
 ghost use Rattle.sshcore.specs.EndData.{Failed, Open, by_input, end_data};
 ghost use Rattle.sshcore.specs.Exchanged.{HasForm};
 ghost use Rattle.sshcore.specs.StateData.{state_data};
 ghost use Rattle.sshcore.specs.Authenticating.{IsOfRequests};
 ghost use Rattle.sshcore.specs.Plan.{is_waiting};
 ghost use Rattle.sshcore.specs.Table.{disposition_by, is_of_method};
-ghost use Rattle.sshcore.specs.Work.{work};
+ghost use Rattle.sshcore.specs.Step.{asked_in};
+ghost use Rattle.sshcore.specs.Work.{step, work};
 
 use crate::config::Config;
-use crate::decisions::Decisions;
 use crate::end::End;
-use crate::kex_exchange::KexReply;
 use crate::lent::set;
-use crate::notice::give_notice;
 use crate::packet_dispositions::message_number;
 use crate::state::State;
 use sshmsg::Message;
@@ -30,12 +29,11 @@ use sshpacket::Suite;
 use sshwire::Memory;
 
 impl State<'_> {
-    /// Answers a message that has a place (RFC 4253 sections 7 to 11, RFC 4252).
-    pub(crate) fn work<S: Suite, D: Decisions>(
+    /// Answers a message that has a place and asks nothing (RFC 4253 sections 7 to 11, RFC 4252).
+    pub(crate) fn work<S: Suite>(
         &mut self,
         config: &Config<'_>,
         suite: &S,
-        decisions: &D,
         payload: &[u8],
         message: &Message<'_>,
         sent: &mut Vec<u8>,
@@ -44,14 +42,14 @@ impl State<'_> {
         requires short { length payload.now ≤ PACKET_LIMIT }
         requires reads { disposition_by (role_of config.now) self.old.phase self.old.strict self.old.guess (is_waiting (state_data self.old).known.left) (message_number payload.now) ≡ disposition.Reads }
         requires spelled { Spells self.old.shares (message_data message.now) payload.now }
-        ensures works { OnOk result (HasForm (S.meaning suite.now) (state_data self.old)
-            → Works (setup_of (S.meaning suite.now) (D.policy decisions.now) config.now) (state_data self.old) (state_data self.new) payload.now sent.old.items sent.new.items
-            (work (setup_of (S.meaning suite.now) (D.policy decisions.now) config.now) (state_data self.old).known (message_data message.now))) }
+        requires calm { asked_in (step (S.meaning suite.now) (role_of config.now) (config_data config.now) (state_data self.old).known (message_data message.now)) ≡ None }
+        ensures works { OnOk result ((d : DecisionsData) → HasForm (S.meaning suite.now) (state_data self.old)
+            → Works (setup_of (S.meaning suite.now) d config.now) (state_data self.old) (state_data self.new) payload.now sent.old.items sent.new.items
+            (work (setup_of (S.meaning suite.now) d config.now) (state_data self.old).known (message_data message.now))) }
         ensures kept { OnOk result (by_input (end_data self.new.end) ≡ true) }
     {
         sshmsg::messages_law();
         sshmsg::numbers_law();
-        give_notice(decisions, message);
         match message {
             Message::Disconnect { reason, .. } => {
                 set(&mut self.end, End::Closed(*reason));
@@ -62,7 +60,7 @@ impl State<'_> {
             | Message::KexdhReply { .. }
             | Message::KexEcdhInit { .. }
             | Message::KexEcdhReply { .. } => {
-                self.work_exchange(config, suite, decisions, payload, message, sent)
+                self.work_exchange(config, suite, payload, message, sent)
             }
             Message::NewKeys => {
                 self.receive_new_keys(config);
@@ -72,13 +70,13 @@ impl State<'_> {
                 self.receive_service_request(config, suite, service, sent)
             }
             Message::ServiceAccept { service } => {
-                self.receive_service_accept(config, suite, decisions, service, sent)
+                self.receive_service_accept(config, suite, service, sent)
             }
             Message::UserauthRequest { .. }
             | Message::UserauthFailure { .. }
             | Message::UserauthSuccess
             | Message::UserauthPkOk { .. } => {
-                self.work_auth(config, suite, decisions, payload, message, sent)
+                self.work_auth(config, suite, payload, message, sent)
             }
             _ => {
                 self.count(payload);
@@ -87,12 +85,11 @@ impl State<'_> {
         }
     }
 
-    /// Answers an exchange message, in either form of shares (RFC 4253 section 8, RFC 5656 section 4).
-    fn work_exchange<S: Suite, D: Decisions>(
+    /// Answers a client's share, in either form (RFC 4253 section 8, RFC 5656 section 4). A server's answer always asks.
+    fn work_exchange<S: Suite>(
         &mut self,
         config: &Config<'_>,
         suite: &S,
-        decisions: &D,
         payload: &[u8],
         message: &Message<'_>,
         sent: &mut Vec<u8>,
@@ -102,55 +99,29 @@ impl State<'_> {
         requires reads { disposition_by (role_of config.now) self.old.phase self.old.strict self.old.guess (is_waiting (state_data self.old).known.left) (message_number payload.now) ≡ disposition.Reads }
         requires spelled { Spells self.old.shares (message_data message.now) payload.now }
         requires exchange { is_of_method (number_of (message_data message.now)) ≡ true }
-        ensures works { OnOk result (HasForm (S.meaning suite.now) (state_data self.old)
-            → Works (setup_of (S.meaning suite.now) (D.policy decisions.now) config.now) (state_data self.old) (state_data self.new) payload.now sent.old.items sent.new.items
-            (work (setup_of (S.meaning suite.now) (D.policy decisions.now) config.now) (state_data self.old).known (message_data message.now))) }
+        requires calm { asked_in (step (S.meaning suite.now) (role_of config.now) (config_data config.now) (state_data self.old).known (message_data message.now)) ≡ None }
+        ensures works { OnOk result ((d : DecisionsData) → HasForm (S.meaning suite.now) (state_data self.old)
+            → Works (setup_of (S.meaning suite.now) d config.now) (state_data self.old) (state_data self.new) payload.now sent.old.items sent.new.items
+            (work (setup_of (S.meaning suite.now) d config.now) (state_data self.old).known (message_data message.now))) }
         ensures kept { OnOk result (by_input (end_data self.new.end) ≡ true) }
     {
         sshmsg::messages_law();
         sshmsg::numbers_law();
         sshmsg::lengths_law();
         match message {
-            Message::KexdhInit { e } => {
-                self.receive_init(config, suite, decisions, e.body(), sent)
-            }
+            Message::KexdhInit { e } => { self.receive_init(config, suite, e.body(), sent) }
             Message::KexEcdhInit { client_share } => {
-                self.receive_init(config, suite, decisions, client_share, sent)
-            }
-            Message::KexdhReply {
-                host_key,
-                f,
-                signature,
-            } => {
-                let reply = KexReply {
-                    host_key,
-                    share: f.body(),
-                    signature,
-                };
-                self.receive_reply(config, suite, decisions, &reply, sent)
-            }
-            Message::KexEcdhReply {
-                host_key,
-                server_share,
-                signature,
-            } => {
-                let reply = KexReply {
-                    host_key,
-                    share: server_share,
-                    signature,
-                };
-                self.receive_reply(config, suite, decisions, &reply, sent)
+                self.receive_init(config, suite, client_share, sent)
             }
             _ => unreachable!(),
         }
     }
 
-    /// Answers a message of authentication (RFC 4252 sections 5 and 5.1).
-    fn work_auth<S: Suite, D: Decisions>(
+    /// Answers a message of authentication that asks nothing (RFC 4252 sections 5 and 5.1).
+    fn work_auth<S: Suite>(
         &mut self,
         config: &Config<'_>,
         suite: &S,
-        decisions: &D,
         payload: &[u8],
         message: &Message<'_>,
         sent: &mut Vec<u8>,
@@ -160,9 +131,10 @@ impl State<'_> {
         requires reads { disposition_by (role_of config.now) self.old.phase self.old.strict self.old.guess (is_waiting (state_data self.old).known.left) (message_number payload.now) ≡ disposition.Reads }
         requires spelled { Spells self.old.shares (message_data message.now) payload.now }
         requires auth { IsOfRequests (number_of (message_data message.now)) }
-        ensures works { OnOk result (HasForm (S.meaning suite.now) (state_data self.old)
-            → Works (setup_of (S.meaning suite.now) (D.policy decisions.now) config.now) (state_data self.old) (state_data self.new) payload.now sent.old.items sent.new.items
-            (work (setup_of (S.meaning suite.now) (D.policy decisions.now) config.now) (state_data self.old).known (message_data message.now))) }
+        requires calm { asked_in (step (S.meaning suite.now) (role_of config.now) (config_data config.now) (state_data self.old).known (message_data message.now)) ≡ None }
+        ensures works { OnOk result ((d : DecisionsData) → HasForm (S.meaning suite.now) (state_data self.old)
+            → Works (setup_of (S.meaning suite.now) d config.now) (state_data self.old) (state_data self.new) payload.now sent.old.items sent.new.items
+            (work (setup_of (S.meaning suite.now) d config.now) (state_data self.old).known (message_data message.now))) }
         ensures kept { OnOk result (by_input (end_data self.new.end) ≡ true) }
     {
         sshmsg::messages_law();
@@ -173,13 +145,13 @@ impl State<'_> {
                 user,
                 service,
                 method,
-            } => self.receive_request(config, suite, decisions, user, service, method, sent),
+            } => self.receive_request(config, suite, user, service, method, sent),
             Message::UserauthFailure { methods, .. } => {
-                self.receive_failure(config, suite, decisions, methods, sent)
+                self.receive_failure(config, suite, methods, sent)
             }
             Message::UserauthSuccess => self.receive_success(config, suite, sent),
             Message::UserauthPkOk { algorithm, key } => {
-                self.receive_pk_ok(config, suite, decisions, algorithm, key, sent)
+                self.receive_pk_ok(config, suite, algorithm, key, sent)
             }
             _ => unreachable!(),
         }

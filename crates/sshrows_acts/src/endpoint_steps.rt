@@ -317,8 +317,8 @@ fn put_chosen(text: &mut TextBuffer, names: &ChosenNames<'_>) {
     put_word(text, names.compression_server_to_client);
 }
 
-/// A question: `host_key` with the algorithm and the blob, `user` with the number, the user, the service and the proof, or
-/// `signature` with the number, the algorithm, the blob and the input; or `nothing`.
+/// A question: `host_key` with the algorithm and the blob, `user` with the number, the user, the service and the proof, and
+/// `signed` where a signature has been verified, or `signature` with the number, the algorithm, the blob and the input; or `nothing`.
 fn text_of_question(alloc: Global, question: &Option<Question<'_>>) -> Result<String, AllocError> {
     let mut text = TextBuffer::new(alloc);
     match question {
@@ -333,10 +333,14 @@ fn text_of_question(alloc: Global, question: &Option<Question<'_>>) -> Result<St
                 user,
                 service,
                 proof,
+                signed,
             },
         ) => {
             write!(text, "user {number} {user} {service}");
             put_proof(alloc, &mut text, proof);
+            if *signed {
+                text.push_str(" signed");
+            }
         }
         Some(
             Question::Signature {

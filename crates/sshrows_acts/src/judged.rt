@@ -213,6 +213,7 @@ fn answer_of<D: Decisions>(
             user,
             service,
             proof,
+            ..
         } => Ok(Decided::Flag(asking.user(*number, user, service, proof))),
         Question::Signature {
             number,

@@ -13,7 +13,7 @@ use Rattle.sshpacket.specs.Stream.{Units}
 use Rattle.sshpacket.specs.Suite.{SuiteData}
 use Rattle.sshcore.specs.declared.end.Fault.TheVariants as fault
 use Rattle.sshcore.specs.declared.phase_table.Phase.TheVariants as phase
-use Rattle.sshcore.specs.Attempts.{attempt_reply}
+use Rattle.sshcore.proofs.StepLemmas.{attempt_reply}
 use Rattle.sshcore.specs.ConfigParts.{AttemptData, ClientData, ServerData, client_offer, server_offer, version_of}
 use Rattle.sshcore.specs.EndData.{EndData, Failed, goes}
 use Rattle.sshcore.specs.EndpointParts.{DecisionsData, client_setup, config_of_client, config_of_server}

@@ -9,7 +9,7 @@ use Rattle.sshpacket.specs.Places.{EachPlace}
 use Rattle.sshpacket.specs.Stream.{Units}
 use Rattle.sshpacket.specs.Suite.{SuiteData}
 use Rattle.sshcore.specs.declared.phase_table.Phase.TheVariants as phase
-use Rattle.sshcore.specs.Attempts.{attempt_reply}
+use Rattle.sshcore.proofs.StepLemmas.{attempt_reply}
 use Rattle.sshcore.specs.ConfigParts.{AttemptData, ByKey, ByNothing, ByPassword, ClientData, CredentialData, ServerData, client_offer, server_offer, version_of}
 use Rattle.sshcore.specs.EndData.{Authenticated, EndData}
 use Rattle.sshcore.specs.EndpointParts.{DecisionsData, client_setup}

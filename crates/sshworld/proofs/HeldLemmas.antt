@@ -5,12 +5,12 @@ use Rattle.sshmsg.specs.MessageData.{MethodData, UserauthRequest}
 use Rattle.sshmsg.specs.Written.{written_message}
 use Rattle.sshneg.specs.Derivations.{signed_text}
 use Rattle.sshpacket.specs.Suite.{SuiteData}
-use Rattle.sshcore.specs.Attempts.{attempt_reply, method_by, request_of, signed_method}
+use Rattle.sshcore.specs.Attempts.{signed_method}
 use Rattle.sshcore.specs.ConfigParts.{AttemptData, ByKey, ByNothing, ByPassword, CredentialData}
 use Rattle.sshcore.specs.EndData.{goes}
 use Rattle.sshcore.specs.EndpointParts.{DecisionsData}
 use Rattle.sshcore.specs.Plan.{unasked}
-use Rattle.sshcore.specs.Signatures.{signature_by}
+use Rattle.sshcore.proofs.StepLemmas.{attempt_reply, method_by, request_of, signature_by}
 use Rattle.sshworld.specs.Held.{IsHeld, held_method, held_request}
 
 -- its signature is that which is made

@@ -25,9 +25,10 @@ use Rattle.sshcore.specs.KnownBefore.{Known}
 use Rattle.sshcore.specs.EndpointParts.{DecisionsData, KeyProof, PasswordProof, ProofData, config_of_server}
 use Rattle.sshcore.specs.Plan.{asks, proving_name}
 use Rattle.sshcore.specs.CompletedMethods.{Tried, are_completed, completed_after, none_completed}
-use Rattle.sshcore.specs.Requests.{completes, method_reply, more_reply, query_answer, request_reply, tried_reply, would_do}
+use Rattle.sshcore.specs.Requests.{completes, more_reply, query_answer, tried_reply}
 use Rattle.sshcore.specs.Tries.{is_decided, is_successful_at, proof_in, tried_with}
 use Rattle.sshcore.proofs.CompletedMethodsLemmas.{complete_is}
+use Rattle.sshcore.proofs.StepLemmas.{method_reply, request_reply, would_do}
 use Rattle.sshworld.specs.Agreement.{agreed, session_between}
 use Rattle.sshworld.specs.Course.{received_last}
 use Rattle.sshworld.specs.Held.{held_method}
@@ -204,7 +205,7 @@ module _ (m : SuiteData) (d : DecisionsData) (c : ClientData) (s : ServerData) (
         other_same (record { user = user; service = service; proving = ByKey algorithm secret false }) granted (successful_same (length made + 1) user service (ByKey algorithm secret false) named signs) refl agreed_is
     method_same user service (ByKey algorithm secret true) named signs short granted agreed_is =
         let r : AttemptData = record { user = user; service = service; proving = ByKey algorithm secret true } in
-        more_same r granted (query_answer m d (config_of_server s) k user service algorithm (m.blob algorithm secret))
+        more_same r granted (query_answer (config_of_server s) algorithm (m.blob algorithm secret) (would_do m d (config_of_server s) k user service algorithm (m.blob algorithm secret)))
         (ap (λ (b : Bool). if b then UserauthPkOk algorithm (m.blob algorithm secret) else UserauthFailure s.methods false) (would_same user service algorithm secret named short)) (length made + 1 == s.tries) refl
 
     pub judged : (r : AttemptData) → IsTestedName r.proving → CanSign m r.proving → HasShortBlob m r.proving → length made + 1 ≤ s.tries

@@ -29,7 +29,6 @@ use Rattle.sshcore.specs.declared.end.Fault.TheVariants as fault
 use Rattle.sshcore.specs.declared.phase_table.Disposition.TheVariants as disposition
 use Rattle.sshcore.specs.declared.phase_table.Phase.{Phase}
 use Rattle.sshcore.specs.declared.phase_table.Phase.TheVariants as phase
-use Rattle.sshcore.specs.Attempts.{attempt_reply}
 use Rattle.sshcore.specs.ConfigParts.{AttemptData, ByKey, ClientData, ServerData, client_offer, own_marker, server_offer, version_of}
 use Rattle.sshcore.specs.EndData.{Authenticated, Closed, fails, goes}
 use Rattle.sshcore.specs.Exchange.{answer_or, answer_with, chosen_or, exchange_with, secret_of, shares_by}
@@ -39,13 +38,13 @@ use Rattle.sshcore.specs.Phases.{leaving}
 use Rattle.sshcore.specs.Plan.{is_waiting, next_after}
 use Rattle.sshcore.specs.CompletedMethods.{CompletedMethodsData, completed_after_one, none_completed}
 use Rattle.sshcore.specs.Replies.{reply_at}
-use Rattle.sshcore.specs.Requests.{request_reply}
 use Rattle.sshcore.specs.Standing.{LeavesNone, Sits, exchange_received}
 use Rattle.sshcore.specs.Table.{disposition_by, is_ignorable}
 use Rattle.sshcore.specs.Tries.{is_successful_at, tried_with}
-use Rattle.sshcore.specs.Work.{answered_by, asks_by, asks_for_extensions, banner_by, chosen_reply, init_for, init_in, init_reply, reply_in, reply_reply, signed_by, signed_reply, told_by, trusted_by, userauth, work}
+use Rattle.sshcore.specs.Work.{asks_by, asks_for_extensions, banner_by, chosen_reply, init_for, init_in, reply_in, signed_by, signed_reply, told_by, userauth}
 use Rattle.sshcore.proofs.ExtensionLemmas.{told_unasked}
 use Rattle.sshcore.proofs.CompletedMethodsLemmas.{bytes_self}
+use Rattle.sshcore.proofs.StepLemmas.{answered_by, attempt_reply, init_reply, reply_reply, request_reply, trusted_by, worked}
 use Rattle.sshworld.specs.Agreement.{answer_of_server, exchange_between, host_key_of_server, session_between}
 use Rattle.sshworld.specs.Held.{held_method, held_request}
 use Rattle.sshworld.specs.Offered.{offered}
@@ -112,15 +111,15 @@ init_begins Hybrid e = refl
 pub init_kind : (m : SuiteData) (own : ConfigData) (kex : List ℕ) → message_number (init_for m own kex) ≡ 30
 init_kind m own kex = init_begins (m.share_form kex) (m.share kex own.random)
 
-work_init : (setup : Setup) (x : Known) (f : ShareForm) (e : List ℕ) → work setup x (init_in f e) ≡ init_reply setup.suite setup.decisions setup.role setup.config x (init_in f e)
-unfolding work
+work_init : (setup : Setup) (x : Known) (f : ShareForm) (e : List ℕ) → worked setup x (init_in f e) ≡ init_reply setup.suite setup.decisions setup.role setup.config x (init_in f e)
+unfolding worked
 work_init setup x Mpint e = refl
 work_init setup x OctetString e = refl
 work_init setup x Hybrid e = refl
 
 work_reply : (setup : Setup) (x : Known) (f : ShareForm) (k e sign : List ℕ)
-    → work setup x (reply_in f k e sign) ≡ reply_reply setup x (reply_in f k e sign) sign
-unfolding work
+    → worked setup x (reply_in f k e sign) ≡ reply_reply setup x (reply_in f k e sign) sign
+unfolding worked
 work_reply setup x Mpint k e sign = refl
 work_reply setup x OctetString k e sign = refl
 work_reply setup x Hybrid k e sign = refl
@@ -180,12 +179,12 @@ stays_51 = record { kexinit = refl; exchange = refl; newkeys = refl; service = r
 module _ (setup : Setup) (version : List ℕ) where
   pub closed : (before : Units) (p : Phase) (guess : Bool) (x : Known) (reason : ℕ) → IsClosing reason → Sits setup version before p guess x
       → reply_at setup version before (written_message (Disconnect reason [] [])) ≡ record { answers = []; end = Closed reason }
-  unfolding work
+  unfolding worked
   closed before p guess x reason h s =
       reads setup version before (written_message (Disconnect reason [] [])) p guess x (Disconnect reason [] []) refl s (h x.shares) (closing_line _ setup.role p x.strict guess)
 
   pub switched : (before : Units) (x : Known) → Sits setup version before phase.NewKeys false x → reply_at setup version before (written_message NewKeys) ≡ goes []
-  unfolding work
+  unfolding worked
   switched before x s = reads setup version before (written_message NewKeys) phase.NewKeys false x NewKeys refl s (new_keys_read x.shares) (leaving_line _ setup.role phase.NewKeys x.strict)
 
   pub switches : (before : Units) (x : Known) → Sits setup version before phase.NewKeys false x → Sits setup version (before ++ written_message NewKeys ∷ []) phase.Service false (record x { first = false; allowance = setup.config.ignored_limit })
@@ -383,7 +382,7 @@ module _ (m : SuiteData) (d : DecisionsData) (c : ClientData) (s : ServerData) (
     pub client_accepted : (before : Units) (session : List ℕ) (plan : List AttemptData) → Sits (client_setup m d c) (version_of s.side) before phase.Service false (client_view session plan)
         → (reply_at (client_setup m d c) (version_of s.side) before (written_message (ServiceAccept userauth)) ≡ attempt_reply m d session plan)
         × Sits (client_setup m d c) (version_of s.side) (before ++ written_message (ServiceAccept userauth) ∷ []) phase.Auth false (client_view session plan)
-    unfolding work
+    unfolding worked
     client_accepted before session plan sits = (
       reads (client_setup m d c) (version_of s.side) before (written_message (ServiceAccept userauth)) phase.Service false (client_view session plan) (ServiceAccept userauth) refl sits (accept_read (m.share_form a.kex))
           (leaving_line _ Client phase.Service (client_view session plan).strict),
@@ -393,7 +392,7 @@ module _ (m : SuiteData) (d : DecisionsData) (c : ClientData) (s : ServerData) (
     pub client_greeted : (before : Units) (session text : List ℕ) (plan : List AttemptData) → s.banner ≡ Some text → Sits (client_setup m d c) (version_of s.side) before phase.Auth false (client_view session plan)
         → (reply_at (client_setup m d c) (version_of s.side) before (written_message (UserauthBanner text [])) ≡ goes [])
         × Sits (client_setup m d c) (version_of s.side) (before ++ written_message (UserauthBanner text []) ∷ []) phase.Auth false (client_view session plan)
-    unfolding work
+    unfolding worked
     client_greeted before session text plan has sits = (
       reads (client_setup m d c) (version_of s.side) before (written_message (UserauthBanner text [])) phase.Auth false (client_view session plan) (UserauthBanner text []) refl sits (readable.banner text has (m.share_form a.kex))
           (auth_line _ (client_view session plan).strict 53 (inr refl)),
@@ -404,7 +403,7 @@ module _ (m : SuiteData) (d : DecisionsData) (c : ClientData) (s : ServerData) (
         → Sits (client_setup m d c) (version_of s.side) before phase.Auth false (client_view session plan)
         → (reply_at (client_setup m d c) (version_of s.side) before (written_message (UserauthFailure s.methods partial)) ≡ attempt_reply m d session (next_after s.methods plan))
         × Sits (client_setup m d c) (version_of s.side) (before ++ written_message (UserauthFailure s.methods partial) ∷ []) phase.Auth false (client_view session (next_after s.methods plan))
-    unfolding work
+    unfolding worked
     client_failed partial read before session plan sits = (
       reads (client_setup m d c) (version_of s.side) before (written_message (UserauthFailure s.methods partial)) phase.Auth false (client_view session plan) (UserauthFailure s.methods partial) refl sits (read (m.share_form a.kex))
           (auth_line _ (client_view session plan).strict 51 (inl refl)),
@@ -418,7 +417,7 @@ module _ (m : SuiteData) (d : DecisionsData) (c : ClientData) (s : ServerData) (
         ≡ attempt_reply m d session (record { user = user; service = service; proving = ByKey algorithm secret false } ∷ later))
         × Sits (client_setup m d c) (version_of s.side) (before ++ written_message (UserauthPkOk algorithm (m.blob algorithm secret)) ∷ []) phase.Auth false
         (client_view session (record { user = user; service = service; proving = ByKey algorithm secret false } ∷ later))
-    unfolding work
+    unfolding worked
     client_confirmed user service algorithm secret later read before session sits =
         let x : AttemptData = record { user = user; service = service; proving = ByKey algorithm secret true } in
         let y : AttemptData = record { user = user; service = service; proving = ByKey algorithm secret false } in (
@@ -431,7 +430,7 @@ module _ (m : SuiteData) (d : DecisionsData) (c : ClientData) (s : ServerData) (
     pub client_succeeds : (before : Units) (session : List ℕ) (r : AttemptData) (later : List AttemptData) → Sits (client_setup m d c) (version_of s.side) before phase.Auth false (client_view session (r ∷ later))
         → reply_at (client_setup m d c) (version_of s.side) before (written_message UserauthSuccess)
         ≡ record { answers = []; end = Authenticated (record { algorithms = a; strict = is_strict c.side.strict Client (server_offer s); session = session; user = r.user; service = r.service }) }
-    unfolding work
+    unfolding worked
     client_succeeds before session r later sits =
         reads (client_setup m d c) (version_of s.side) before (written_message UserauthSuccess) phase.Auth false (client_view session (r ∷ later)) UserauthSuccess refl sits (success_read (m.share_form a.kex))
         (leaving_line _ Client phase.Auth (client_view session (r ∷ later)).strict)
@@ -440,7 +439,7 @@ module _ (m : SuiteData) (d : DecisionsData) (c : ClientData) (s : ServerData) (
     pub server_accepts : (before : Units) (session : List ℕ) (n : ℕ) (g : CompletedMethodsData) → Sits (server_setup m d s) (version_of c.side) before phase.Service false (server_view session n g)
         → (reply_at (server_setup m d s) (version_of c.side) before (written_message (ServiceRequest userauth)) ≡ goes (written_message (ServiceAccept userauth) ∷ banner_by s.banner))
         × Sits (server_setup m d s) (version_of c.side) (before ++ written_message (ServiceRequest userauth) ∷ []) phase.Auth false (server_view session n g)
-    unfolding work
+    unfolding worked
     server_accepts before session n g sits = (
       reads (server_setup m d s) (version_of c.side) before (written_message (ServiceRequest userauth)) phase.Service false (server_view session n g) (ServiceRequest userauth) refl sits (service_read (m.share_form a.kex))
           (leaving_line _ Server phase.Service (server_view session n g).strict),
@@ -454,7 +453,7 @@ module _ (m : SuiteData) (d : DecisionsData) (c : ClientData) (s : ServerData) (
         × Sits (server_setup m d s) (version_of c.side) (before ++ held_request m (session_between m c s a) r ∷ []) phase.Auth false
         (server_view (session_between m c s a) (n + 1) (completed_after_one g (tried_with r.user r.service (held_method m (session_between m c s a) r.user r.service r.proving)
         (is_successful_at m d (config_of_server s) (session_between m c s a) n r.user r.service (held_method m (session_between m c s a) r.user r.service r.proving)))))
-    unfolding work
+    unfolding worked
     server_asked_for before n i g r at sits = (
       reads (server_setup m d s) (version_of c.side) before (held_request m (session_between m c s a) r) phase.Auth false (server_view (session_between m c s a) n g) (UserauthRequest r.user r.service (held_method m (session_between m c s a) r.user r.service r.proving)) refl
           sits (readable.requests i r at (m.share_form a.kex)) (leaving_line _ Server phase.Auth (server_view (session_between m c s a) n g).strict),

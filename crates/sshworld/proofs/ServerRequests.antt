@@ -16,7 +16,7 @@ use Rattle.sshcore.specs.EndpointParts.{DecisionsData, config_of_server, server_
 use Rattle.sshcore.specs.Plan.{unasked}
 use Rattle.sshcore.specs.CompletedMethods.{CompletedMethodsData, completed_after, completed_after_one, none_completed}
 use Rattle.sshcore.specs.Replies.{reply_at}
-use Rattle.sshcore.specs.Requests.{request_reply}
+use Rattle.sshcore.proofs.StepLemmas.{request_reply}
 use Rattle.sshcore.specs.Tries.{is_successful_at, tried_with}
 use Rattle.sshcore.proofs.PlanLemmas.{completed_push}
 use Rattle.sshcore.specs.Standing.{Sits}

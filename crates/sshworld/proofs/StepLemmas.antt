@@ -36,10 +36,11 @@ use Rattle.sshcore.specs.Tries.{tried_by, tried_in}
 use Rattle.sshcore.specs.Replies.{disposition_reply, read_reply, reply_at}
 use Rattle.sshcore.specs.Standing.{LeavesNone, Sits, after_offer, after_payload, nothing_known}
 use Rattle.sshcore.specs.Table.{disposition_by, is_ignorable}
-use Rattle.sshcore.specs.Work.{chosen_reply, kexinit_reply, work}
+use Rattle.sshcore.specs.Work.{chosen_reply, kexinit_reply}
 use Rattle.sshcore.proofs.IgnoredLimitLemmas.{always_allowed}
 use Rattle.sshcore.proofs.LawsBelow.{Below}
 use Rattle.sshcore.proofs.StandingLemmas as standing
+use Rattle.sshcore.proofs.StepLemmas.{work_is, worked}
 
 -- two names that are the same
 record SameName (a b : Option (List ℕ)) : Type 0 where
@@ -130,7 +131,7 @@ module _ (setup : Setup) (version : List ℕ) where
   -- a message that has a place and says something is worked on
   pub reads : (before : Units) (payload : List ℕ) (p : Phase) (guess : Bool) (x : Known) (content : MessageData) → is_ignorable (number_of content) ≡ false → Sits setup version before p guess x
       → message_in x.shares payload ≡ Ok content → disposition_by setup.role p x.strict guess (is_waiting x.left) (number_of content) ≡ disposition.Reads
-      → reply_at setup version before payload ≡ work setup x content
+      → reply_at setup version before payload ≡ worked setup x content
   unfolding disposition_reply
   reads before payload p guess x content heeded s e is =
       standing.replies setup version before payload p guess x s
@@ -138,6 +139,7 @@ module _ (setup : Setup) (version : List ℕ) where
       ∙ ap (λ (l : Disposition). disposition_reply setup x (number_in setup.role setup.config before) l payload) is
       ∙ always_allowed x payload (read_reply setup x (message_number payload) (message_in x.shares payload)) (ap is_ignorable (message_number_tells x.shares payload content e) ∙ heeded)
       ∙ ap (λ r. read_reply setup x (message_number payload) r) e
+      ∙ work_is setup x content
 
   pub drops : (before : Units) (payload : List ℕ) (p : Phase) (guess : Bool) (x : Known) → Sits setup version before p guess x
       → disposition_by setup.role p x.strict guess (is_waiting x.left) (message_number payload) ≡ disposition.Drops → reply_at setup version before payload ≡ goes []
@@ -153,7 +155,7 @@ module _ (setup : Setup) (version : List ℕ) where
 
   pub replies_first : (payload : List ℕ) (peer : KexInitData) → message_in Mpint payload ≡ Ok (KexInit peer)
       → reply_at setup version [] payload ≡ chosen_reply setup.suite setup.role setup.config peer (choice setup.suite (client_of setup.role setup.config.offer peer) (server_of setup.role setup.config.offer peer))
-  unfolding work kexinit_reply
+  unfolding worked kexinit_reply
   replies_first payload peer e =
       reads [] payload phase.KexInit false (nothing_known setup.config version) (KexInit peer) refl (standing.begins setup version) e (first_line setup.role false (is_waiting setup.config.plan))
       ∙ ap (λ (b : Bool). if b then fails (fault.Strict 20) else chosen_reply setup.suite setup.role setup.config peer (choice setup.suite (client_of setup.role setup.config.offer peer) (server_of setup.role setup.config.offer peer))) (and_right (strict_towards setup.role setup.config.strict (Some peer)) false refl)

@@ -1,4 +1,4 @@
-use Rattle.std.proofs.Common.{◌≡◌, ◌∙◌, ◌<◌, ◌^◌, ◌++◌, List, ℕ, ap, arith, sym}
+use Rattle.std.proofs.Common.{◌∙◌, ◌<◌, ◌^◌, ◌++◌, ℕ, ap, arith, sym}
 use Rattle.std.proofs.lemmas.Grind.{common_steps}
 use Rattle.sshwire.specs.Types.{uint32}
 use Rattle.rezdolin.proofs.DirectionLemmas.{place_whole}

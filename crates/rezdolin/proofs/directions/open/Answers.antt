@@ -1,4 +1,4 @@
-use Rattle.std.proofs.Common.{◌≡◌, ◌∙◌, List, ℕ, Some, subst, sym, take}
+use Rattle.std.proofs.Common.{◌∙◌, Some, subst, take}
 use Rattle.sshpacket.specs.PacketReaderData.{PacketReaderData, packet_reader_data}
 use Rattle.sshpacket.specs.Parse.{protection}
 use Rattle.sshpacket.specs.ProtectedPacket.{IsProtectedPacket}

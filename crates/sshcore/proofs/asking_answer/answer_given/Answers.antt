@@ -1,11 +1,10 @@
 use Rattle.std.proofs.Common.{rules, List, ℕ, subst}
 use Rattle.sshcore.specs.EndpointConfig.{config_data, role_of}
-use Rattle.sshcore.specs.Questions.{AnswerData, taken}
+use Rattle.sshcore.specs.Questions.{taken}
 use Rattle.sshcore.specs.QuestionsView.{answer_data}
 use Rattle.sshcore.specs.StateData.{state_data}
 use Rattle.sshcore.specs.Unread.{AnswerSteps}
 use Rattle.sshcore.specs.WaitingView.{waiting_data}
-use Rattle.sshcore.proofs.AskingLemmas.{always_decides}
 use Rattle.sshcore.proofs.asking_answer.answer_given.Goals as goal
 
 pub returns-clause-steps : goal.returns-clause-steps
@@ -20,6 +19,5 @@ returns-clause-steps g c =
       c.answer_packet.new.sent.items,
       search rules,
       subst (λ (l : List ℕ). AnswerSteps m role config (taken w.question answer) w c.args.input.now old c.answer_packet.new.input last l c.answer_packet.new.sent.items) c.new-sent.ensures.items
-          (subst (λ (a : AnswerData). AnswerSteps m role config a w c.args.input.now old c.answer_packet.new.input last c.new-sent.result.items c.answer_packet.new.sent.items) (always_decides answer w.question)
-          c.in_ok-answer_packet.ensures.steps),
+          c.in_ok-answer_packet.ensures.steps,
     )

@@ -1,5 +1,6 @@
-use Rattle.std.proofs.Common.{◌<◌, ◌≤◌, ℕ, true, false, [], Ok, Err, Some, length, take, refl, sym, ap, ◌∙◌, subst, option_map}
-use Rattle.sshpacket.specs.Parse.{OfPacket, parse_packet}
+use Rattle.std.proofs.Common.{◌<◌, ◌≤◌, ◌+◌, ℕ, true, List, [], rules, Ok, Err, Option, length, take, sym, ap, ◌∙◌, subst}
+use Rattle.sshpacket.specs.declared.limits.TheConstants.{PACKET_LIMIT}
+use Rattle.sshpacket.specs.Parse.{OfPacket, parse_packet, whole}
 use Rattle.sshpacket.specs.PacketReaderData.{PacketReaderData, ParseAnswer, ReaderLeaves, last_used, packet_reader_data, protection_at}
 use Rattle.sshcore.specs.declared.input.Input.TheVariants as input
 use Rattle.sshcore.specs.AskingData.{WaitingData}
@@ -7,13 +8,12 @@ use Rattle.sshcore.specs.EndpointConfig.{config_data, role_of, setup_of}
 use Rattle.sshcore.specs.EndpointParts.{setup_with}
 use Rattle.sshcore.specs.Exchange.{keys_by}
 use Rattle.sshcore.specs.Inputs.{Steps}
-use Rattle.sshcore.specs.Prepared.{IsPrepared}
-use Rattle.sshcore.specs.Questions.{Decided, always, question_at}
-use Rattle.sshcore.specs.QuestionsView.{asked_data}
 use Rattle.sshcore.specs.Standing.{exchange_received}
-use Rattle.sshcore.specs.StateData.{state_data}
-use Rattle.sshcore.specs.Unread.{ReadsPacket}
-use Rattle.sshcore.proofs.AskingLemmas.{alike_unasked, reads_packet, unit_steps}
+use Rattle.sshcore.specs.Keeping.{FitsConfig}
+use Rattle.sshcore.specs.StateData.{StateData, state_data}
+use Rattle.sshcore.specs.WaitingView.{waiting_data, waiting_of}
+use Rattle.sshcore.specs.Unread.{TakesPacket}
+use Rattle.sshcore.proofs.AskingLemmas.{no_decisions, reads_packet, unit_steps}
 use Rattle.sshcore.proofs.LawsBelow.{Below}
 use Rattle.sshcore.proofs.HistoryLemmas.{Streams}
 use Rattle.sshcore.proofs.KeepingLemmas.{fits_after, fits_turned}
@@ -44,33 +44,36 @@ returns-in-Ok-More-clause-steps g c = λ d.
     (subst (λ x. ParseAnswer m (packet_reader_data r) c.args.piece.now (Ok x)) c.in-Ok-More.field-0-is (c.in-Ok-More.ensures.answers c.requires.reads))
     (subst (λ x. ReaderLeaves m (packet_reader_data r) c.args.piece.now x q) came (c.next.follows.holds-at-none.0 c.requires.reads)).0
 
-pub returns-in_ok-waiting-in-Some-clause-steps : goal.returns-in_ok-waiting-in-Some-clause-steps
-returns-in_ok-waiting-in-Some-clause-steps g c =
+pub returns-in-Some-clause-steps : goal.returns-in-Some-clause-steps
+returns-in-Some-clause-steps g c =
     let m = g.S.Suite.meaning c.args.suite.now in
     let r = c.args.reader.now in
     let p = c.next.follows.lender-at-none in
     let came = c.in-Ok-Payload.is ∙ ap Ok c.in-Ok-Payload.field-0-is in
     let answer = subst (λ x. ParseAnswer m (packet_reader_data r) c.args.piece.now (Ok x)) c.in-Ok-Payload.field-0-is (c.in-Ok-Payload.ensures.answers c.requires.reads) in
     let leaves = subst (λ x. ReaderLeaves m (packet_reader_data r) c.args.piece.now x p) came (c.next.follows.holds-at-none.0 c.requires.reads) in
-    let w : WaitingData = record { packet = c.in-Ok-Payload.seq; payload = c.in-Ok-Payload.payload.now; question = asked_data c.in-Some.asked; prepared = c.in_ok-prepared-in-Ok-Payload.prepared } in
-    let same = c.in_ok-waiting-in-Some.ensures.same in
+    let w : WaitingData = waiting_data c.in-Some.waiting in
+    let short : length c.in-Ok-Payload.payload.now ≤ PACKET_LIMIT = search rules in
+    let role = role_of c.args.config.now in
+    let config = config_data c.args.config.now in
+    let takes = subst (λ (o : Option WaitingData). TakesPacket m role config (state_data c.args.state.now) (state_data c.take_packet.new.state) c.in-Ok-Payload.seq c.in-Ok-Payload.payload.now c.args.sent.now.items c.take_packet.new.sent.items o)
+    (ap waiting_of c.in-Some.is) c.in_ok-waiting-in-Ok-Payload.ensures.takes in
     record {
-      same = refl;
-      nothing_sent = refl;
-      reads = subst (λ (x : WaitingData). ReadsPacket m (input.Packets r) (input.Packets p) x (take c.in-Ok-Payload.used c.args.piece.now)) (sym same)
-          (reads_packet m r p (c.parser_by_law.ensures.packets (protection_at m (packet_reader_data r))) c.args.piece.now c.in-Ok-Payload.used w answer.0 answer.1 answer.2 leaves.0);
+      same = takes.0;
+      nothing_sent = takes.1;
+      reads = reads_packet m r p (c.parser_by_law.ensures.packets (protection_at m (packet_reader_data r))) c.args.piece.now c.in-Ok-Payload.used w answer.0
+          (answer.1 ∙ ap (λ (l : List ℕ). whole l (length (packet_reader_data r).held + c.in-Ok-Payload.used)) (sym takes.2)) leaves.0;
       asked = record {
-        is_open = c.requires.open;
+        is_open = ap (λ (k : StateData). k.end) takes.0 ∙ c.requires.open;
         idle = ap (λ (t : PacketReaderData). t.held) leaves.0;
-        short = c.in_ok-waiting-in-Some.ensures.short;
-        asks = ap (λ (x : WaitingData). question_at m (role_of c.args.config.now) (config_data c.args.config.now) (state_data c.args.state.now) x.payload) same
-            ∙ sym c.in_ok-asked-in-Ok-Payload.ensures ∙ ap (λ x. option_map asked_data x) c.in-Some.is ∙ ap (λ (x : WaitingData). Some x.question) (sym same);
-        prepared = subst (λ (x : WaitingData). IsPrepared m (config_data c.args.config.now).random x.prepared) (sym same) c.in_ok-prepared-in-Ok-Payload.ensures;
+        short = subst (λ (l : List ℕ). length l ≤ PACKET_LIMIT) (sym takes.2) short;
+        asks = takes.3;
+        keeps = takes.4;
       };
     }
 
-pub returns-in_ok-receive_prepared-in-None-clause-steps : goal.returns-in_ok-receive_prepared-in-None-clause-steps
-returns-in_ok-receive_prepared-in-None-clause-steps g c = λ d.
+pub returns-in-None-clause-steps : goal.returns-in-None-clause-steps
+returns-in-None-clause-steps g c = λ d.
     let m = g.S.Suite.meaning c.args.suite.now in
     let r = c.args.reader.now in
     let below : Below = record { numbers = c.numbers_law.ensures.message_number; alike = c.numbers_law.ensures.alike; right = c.markers_law.ensures.right } in
@@ -93,9 +96,10 @@ returns-in_ok-receive_prepared-in-None-clause-steps g c = λ d.
     let role = role_of c.args.config.now in
     let config = config_data c.args.config.now in
     let old = state_data c.args.state.now in
-    unit_steps below streams m role config (always (Decided false)) old (state_data c.receive_prepared.new.self) (state_data c.turn.new.state) c.args.sent.now.items c.receive_prepared.new.sent.items c.requires.open
-    r p c.turn.new.reader c.args.piece.now c.in-Ok-Payload.payload.now c.in-Ok-Payload.used c.in-Ok-Payload.seq answer.0 answer.1 answer.2 leaves.0 c.in_ok-receive_prepared-in-None.ensures.brings c.turn.ensures.turns d
-    (alike_unasked d (question_at m role config old c.in-Ok-Payload.payload.now) (sym c.in_ok-asked-in-Ok-Payload.ensures ∙ ap (λ x. option_map asked_data x) c.in-None.is))
+    let takes = subst (λ (o : Option WaitingData). TakesPacket m role config old (state_data c.take_packet.new.state) c.in-Ok-Payload.seq c.in-Ok-Payload.payload.now c.args.sent.now.items c.take_packet.new.sent.items o)
+    (ap waiting_of c.in-None.is) c.in_ok-waiting-in-Ok-Payload.ensures.takes in
+    unit_steps below streams m role config old (state_data c.take_packet.new.state) (state_data c.turn.new.state) c.args.sent.now.items c.take_packet.new.sent.items c.requires.open
+    r p c.turn.new.reader c.args.piece.now c.in-Ok-Payload.payload.now c.in-Ok-Payload.used c.in-Ok-Payload.seq answer.0 answer.1 answer.2 leaves.0 d (takes.1 d) c.turn.ensures.turns
 
 pub returns-in_ok-fail_packet-in-Err-clause-steps : goal.returns-in_ok-fail_packet-in-Err-clause-steps
 returns-in_ok-fail_packet-in-Err-clause-steps g c = λ d.
@@ -139,13 +143,26 @@ returns-in_ok-fail_packet-in-Err-clause-used g c =
       subst (λ (n : ℕ). n ≤ length c.args.piece.now) (sym used_is) leaves.1,
     )
 
-pub returns-in_ok-receive_prepared-in-None-clause-keeps : goal.returns-in_ok-receive_prepared-in-None-clause-keeps
-returns-in_ok-receive_prepared-in-None-clause-keeps g c =
+pub returns-in-None-clause-keeps : goal.returns-in-None-clause-keeps
+returns-in-None-clause-keeps g c =
     let m = g.S.Suite.meaning c.args.suite.now in
     let below : Below = record { numbers = c.numbers_law.ensures.message_number; alike = c.numbers_law.ensures.alike; right = c.markers_law.ensures.right } in
+    let role = role_of c.args.config.now in
     let config = config_data c.args.config.now in
     let old = state_data c.args.state.now in
-    let new = state_data c.receive_prepared.new.self in
+    let new = state_data c.take_packet.new.state in
+    let takes = subst (λ (o : Option WaitingData). TakesPacket m role config old new c.in-Ok-Payload.seq c.in-Ok-Payload.payload.now c.args.sent.now.items c.take_packet.new.sent.items o)
+    (ap waiting_of c.in-None.is) c.in_ok-waiting-in-Ok-Payload.ensures.takes in
     fits_turned m config old new (state_data c.turn.new.state) c.next.follows.lender-at-none c.turn.new.reader c.turn.ensures.turns
-    (fits_after below (setup_with m (always (Decided false)) (role_of c.args.config.now) config) c.in-Ok-Payload.payload.now old new c.in-Ok-Payload.seq c.args.sent.now.items c.receive_prepared.new.sent.items
-    (λ fits. c.in_ok-receive_prepared-in-None.ensures.brings fits.form))
+    (fits_after below (setup_with m no_decisions role config) c.in-Ok-Payload.payload.now old new c.in-Ok-Payload.seq c.args.sent.now.items c.take_packet.new.sent.items
+    (λ fits. takes.1 no_decisions fits.form))
+
+pub returns-in-Some-clause-keeps : goal.returns-in-Some-clause-keeps
+returns-in-Some-clause-keeps g c =
+    let m = g.S.Suite.meaning c.args.suite.now in
+    let role = role_of c.args.config.now in
+    let config = config_data c.args.config.now in
+    let old = state_data c.args.state.now in
+    let takes = subst (λ (o : Option WaitingData). TakesPacket m role config old (state_data c.take_packet.new.state) c.in-Ok-Payload.seq c.in-Ok-Payload.payload.now c.args.sent.now.items c.take_packet.new.sent.items o)
+    (ap waiting_of c.in-Some.is) c.in_ok-waiting-in-Ok-Payload.ensures.takes in
+    λ fits ongoing. subst (λ (k : StateData). FitsConfig m config k) (sym takes.0) fits

@@ -1,6 +1,6 @@
 use Rattle.std.proofs.Common.{◌∙◌, List, subst, ℕ}
 use Rattle.std.proofs.lemmas.List.{append-nil}
-use Rattle.sshcore.specs.RecordText.{Adds, IsShort, authentication_text, body_text, carried_text, exchange_text, option_text, packet_text, reader_text, sending_text, waits_text}
+use Rattle.sshcore.specs.RecordText.{Adds, IsShort, authentication_text, body_text, bytes_text, carried_text, exchange_text, option_text, reader_text, sending_text, waits_text}
 use Rattle.sshcore.specs.RecordView.{record_data}
 use Rattle.sshcore.proofs.RecordLemmas.{on_ok}
 use Rattle.sshcore.proofs.record_writing.put_record.Goals as goal
@@ -12,7 +12,7 @@ returns-clause-adds c =
     let waits = subst (λ (held : List ℕ). Adds (waits_text r.missing held) c.args.out.now.items c.put_waits.new.out.items) held c.in_ok-put_waits.ensures.adds in
     on_ok c.put_waiting.result
     (λ waiting rest.
-    let waited = option_text packet_text r.waiting rest in
+    let waited = option_text bytes_text r.waiting rest in
     let read = reader_text r.reader waited in
     let sent = sending_text r.sending read in
     let carried = carried_text r.carried sent in

@@ -1,12 +1,12 @@
-use Rattle.std.proofs.Common.{◌≡◌, ◌∙◌, Bool, Option, sym, ℕ}
+use Rattle.std.proofs.Common.{◌≡◌, ◌∙◌, Bool, List, Option, sym, ℕ}
 use Rattle.sshneg.specs.declared.side.Side.{Side}
 use Rattle.sshcore.specs.declared.phase_table.Phase.{Phase}
 use Rattle.sshcore.specs.Output.{Sending}
-use Rattle.sshcore.specs.RecordData.{AuthenticationRecord, ExchangeRecord, PacketRecord, ReaderRecord, RecordData, held_in}
+use Rattle.sshcore.specs.RecordData.{AuthenticationRecord, ExchangeRecord, ReaderRecord, RecordData, held_in}
 use Rattle.sshcore.specs.StateData.{Carried}
 use Rattle.sshcore.proofs.record_reading.RecordReader.record.Goals as goal
 
-same_record : (missing missing_ : ℕ) (role role_ : Side) (confirmed confirmed_ : Bool) (left left_ : ℕ) (phase phase_ : Phase) (guess guess_ : Bool) (exchange exchange_ : ExchangeRecord) (authentication authentication_ : AuthenticationRecord) (carried carried_ : Carried) (sending sending_ : Sending) (reader reader_ : ReaderRecord) (waiting waiting_ : Option PacketRecord) → missing ≡ missing_ → role ≡ role_ → confirmed ≡ confirmed_ → left ≡ left_ → phase ≡ phase_ → guess ≡ guess_ → exchange ≡ exchange_ → authentication ≡ authentication_ → carried ≡ carried_ → sending ≡ sending_ → reader ≡ reader_ → waiting ≡ waiting_
+same_record : (missing missing_ : ℕ) (role role_ : Side) (confirmed confirmed_ : Bool) (left left_ : ℕ) (phase phase_ : Phase) (guess guess_ : Bool) (exchange exchange_ : ExchangeRecord) (authentication authentication_ : AuthenticationRecord) (carried carried_ : Carried) (sending sending_ : Sending) (reader reader_ : ReaderRecord) (waiting waiting_ : Option (List ℕ)) → missing ≡ missing_ → role ≡ role_ → confirmed ≡ confirmed_ → left ≡ left_ → phase ≡ phase_ → guess ≡ guess_ → exchange ≡ exchange_ → authentication ≡ authentication_ → carried ≡ carried_ → sending ≡ sending_ → reader ≡ reader_ → waiting ≡ waiting_
     → ◌≡◌ {A = RecordData} (record { missing = missing; role = role; confirmed = confirmed; left = left; phase = phase; guess = guess; exchange = exchange; authentication = authentication; carried = carried; sending = sending; reader = reader; waiting = waiting })
     (record { missing = missing_; role = role_; confirmed = confirmed_; left = left_; phase = phase_; guess = guess_; exchange = exchange_; authentication = authentication_; carried = carried_; sending = sending_; reader = reader_; waiting = waiting_ })
 same_record _ _ _ _ _ _ _ _ _ _ _ _ _ _ _ _ _ _ _ _ _ _ _ _ e0 e1 e2 e3 e4 e5 e6 e7 e8 e9 e10 e11 = cc

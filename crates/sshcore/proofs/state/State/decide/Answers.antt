@@ -1,26 +1,34 @@
-use Rattle.std.proofs.Common.{Bool, sym, ap, ◌∙◌, true, false}
+use Rattle.std.proofs.Common.{Bool, ap, sym, refl, ◌∙◌}
+use Rattle.std.specs.Prelude.{◌&&◌}
 use Rattle.std.proofs.lemmas.Result.{on_ok_weaker}
-use Rattle.sshmsg.specs.MessageData.{UserauthFailure}
-use Rattle.sshmsg.specs.View.{method_data}
+use Rattle.sshcore.specs.Authenticating.{claimed_reply, counted_request, tried_key}
 use Rattle.sshcore.specs.EndpointConfig.{config_data}
-use Rattle.sshcore.specs.StateData.{StateData, state_data}
-use Rattle.sshcore.specs.Requests.{more_reply, tried_reply}
-use Rattle.sshcore.proofs.GivesLemmas.{gives_by, gives_from}
+use Rattle.sshcore.specs.QuestionsView.{claim_method}
+use Rattle.sshcore.specs.StateData.{state_data}
+use Rattle.sshcore.specs.Tries.{tried_with}
+use Rattle.sshcore.specs.declared.pending.Claim.{Claim}
+use Rattle.sshcore.proofs.GivesLemmas.{gives_by}
+use Rattle.sshcore.proofs.RequestLemmas.{claimed_other, claims_other, named_other}
 use Rattle.sshcore.proofs.state.State.decide.Goals as goal
 
-pub returns-then-successful-clause-gives : goal.returns-then-successful-clause-gives
-returns-then-successful-clause-gives g c =
-    let config = config_data c.args.config.now in
-    let key = c.in_ok-keep_key.ensures in
-    on_ok_weaker c.receive_successful.result (λ given strict next.
-    gives_by _ _ strict next _ _ _ _ _ _ (ap (λ (k : StateData). tried_reply config k.known c.args.user.now c.args.service.now (method_data c.args.method.now) true) key
-    ∙ ap (λ (b : Bool). tried_reply config (state_data c.args.self.now).known c.args.user.now c.args.service.now (method_data c.args.method.now) b) (sym c.if-successful.true))
-    (gives_from _ _ strict next (state_data c.keep_key.new.self) (state_data c.args.self.now) _ _ _ _ (sym (ap (λ (k : StateData). k.sending) key)) (given strict next))) c.receive_successful.ensures.gives
+pub returns-in-Query-clause-gives : goal.returns-in-Query-clause-gives
+returns-in-Query-clause-gives g c = on_ok_weaker c.answer_query.result (λ given strict next.
+    gives_by _ _ strict next _ _ _ _ _ _
+    (rw (c.deref.ensures, c.deref-in-Query.ensures.value) refl
+    ∙ ap (λ (x : Claim). claimed_reply (config_data c.args.config.now) (state_data c.args.self.now).known c.args.user.now c.args.service.now (claim_method x) c.args.allowed) (sym c.in-Query.is)) (given strict next)) c.answer_query.ensures.gives
+
+pub decide_claim-requires-clause-named : goal.decide_claim-requires-clause-named
+decide_claim-requires-clause-named g c = named_other (config_data c.args.config.now) (state_data c.args.self.now).known c.args.claim.now c.in_default.not-Query c.requires.fits
 
 pub returns-clause-gives : goal.returns-clause-gives
-returns-clause-gives g c =
-    let config = config_data c.args.config.now in
-    on_ok_weaker c.refuse_more.result (λ given strict next.
-    gives_by _ _ strict next _ _ _ _ _ _ (ap (λ (k : StateData). more_reply config k.known (UserauthFailure config.methods false)) c.forget_others.ensures
-    ∙ ap (λ (b : Bool). tried_reply config (state_data c.args.self.now).known c.args.user.now c.args.service.now (method_data c.args.method.now) b) (sym c.if-successful.false))
-    (gives_from _ _ strict next (state_data c.forget_others.new.self) (state_data c.args.self.now) _ _ _ _ (sym (ap (λ (k : StateData). k.sending) c.forget_others.ensures)) (given strict next))) c.refuse_more.ensures.gives
+returns-clause-gives g c = on_ok_weaker c.decide_claim.result (λ given strict next.
+    gives_by _ _ strict next _ _ _ _ _ _ (claimed_other (config_data c.args.config.now) (state_data c.args.self.now).known c.args.user.now c.args.service.now c.args.claim.now c.in_default.not-Query c.args.allowed) (given strict next)) c.decide_claim.ensures.gives
+
+pub returns-clause-stays : goal.returns-clause-stays
+returns-clause-stays g c =
+    let old = state_data c.args.self.now in
+    let new = state_data c.decide_claim.new.self in
+    let method = claim_method c.args.claim.now in
+    on_ok_weaker c.decide_claim.result (λ stays goes_on. stays goes_on
+    ∙ ap (λ (b : Bool). record old { end = new.end; known = counted_request old.known (tried_with c.args.user.now c.args.service.now method (b && c.args.allowed)); carried = tried_key old.carried method (b && c.args.allowed); sending = new.sending })
+    (sym (claims_other c.args.claim.now c.in_default.not-Query))) c.decide_claim.ensures.stays

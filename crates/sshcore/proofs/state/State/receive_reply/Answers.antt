@@ -1,22 +1,17 @@
-use Rattle.std.proofs.Common.{◌≡◌, ◌∙◌, List, None, Some, ap, false, rules, true, ℕ}
+use Rattle.std.proofs.Common.{◌≡◌, ◌∙◌, List, None, Some, ap, rules, ℕ}
 use Rattle.std.proofs.lemmas.Result.{on_ok_weaker}
 use Rattle.sshcore.specs.EndpointConfig.{config_data, role_of}
 use Rattle.sshcore.specs.StateData.{state_data}
-use Rattle.sshcore.proofs.ExchangeLemmas.{decided, made_none, made_some, reply_distrusts, reply_fails, reply_judged, shared_short}
+use Rattle.sshcore.proofs.ExchangeLemmas.{made_none, made_some, reply_distrusts, reply_fails, reply_judged, shared_short}
 use Rattle.sshcore.proofs.state.State.receive_reply.Goals as goal
 
-pub returns-then-not-host_key-clause-receives : goal.returns-then-not-host_key-clause-receives
-returns-then-not-host_key-clause-receives g c =
-    let d = g.D.Decisions.policy c.args.decisions.now in
+pub returns-then-not-trusted-clause-receives : goal.returns-then-not-trusted-clause-receives
+returns-then-not-trusted-clause-receives g c =
     let old = state_data c.args.self.now in
     let host_key : List ℕ = c.args.reply.now.host_key.now in
-    let names : c.unwrap-algorithms.result.now ≡ old.known.algorithms = search rules in
-    let off : d.host_key old.known.algorithms.host_key host_key ≡ false =
-    decided (λ (name : List ℕ). d.host_key name host_key) c.host_key.result.now old.known.algorithms.host_key c.host_key-2.result false
-    (c.host_key.ensures.host_key ∙ ap (λ a. a.host_key) names) c.host_key-2.ensures c.if-not-host_key.true in
     on_ok_weaker c.fail.result
-    (λ gives message read told form. reply_distrusts (g.S.Suite.meaning c.args.suite.now) d (config_data c.args.config.now) old (state_data c.fail.new.self) c.args.sent.now.items
-    c.fail.new.sent.items message host_key c.args.reply.now.share.now c.args.reply.now.signature.now read told off gives)
+    (λ gives d message decided read told form. reply_distrusts (g.S.Suite.meaning c.args.suite.now) d (config_data c.args.config.now) old (state_data c.fail.new.self) c.args.sent.now.items
+    c.fail.new.sent.items message host_key c.args.reply.now.share.now c.args.reply.now.signature.now read told (decided ∙ c.if-not-trusted.true) gives)
     c.fail.ensures.gives
 
 pub judge_reply-requires-clause-shared : goal.judge_reply-requires-clause-shared
@@ -35,40 +30,32 @@ judge_reply-requires-clause-shared g c =
 pub returns-in-None-clause-receives : goal.returns-in-None-clause-receives
 returns-in-None-clause-receives g c =
     let m = g.S.Suite.meaning c.args.suite.now in
-    let d = g.D.Decisions.policy c.args.decisions.now in
     let old = state_data c.args.self.now in
     let random : List ℕ = (config_data c.args.config.now).random in
     let host_key : List ℕ = c.args.reply.now.host_key.now in
     let share : List ℕ = c.args.reply.now.share.now in
     let names : c.unwrap-algorithms.result.now ≡ old.known.algorithms = search rules in
-    let on : d.host_key old.known.algorithms.host_key host_key ≡ true =
-    decided (λ (name : List ℕ). d.host_key name host_key) c.host_key.result.now old.known.algorithms.host_key c.host_key-2.result true
-    (c.host_key.ensures.host_key ∙ ap (λ a. a.host_key) names) c.host_key-2.ensures c.if-not-host_key.false in
     let none : m.shared old.known.algorithms.kex random share ≡ None =
     made_none (λ v. v.items) (λ (k r : List ℕ). m.shared k r share) c.kex.result.now old.known.algorithms.kex c.exchange_random-random.result.now random c.in_ok-shared.field-0
     (c.kex.ensures.kex ∙ ap (λ a. a.kex) names) c.exchange_random-random.ensures.random c.in_ok-shared.ensures c.in-None.is in
     on_ok_weaker c.fail-in-None.result
-    (λ gives message read told form. reply_fails m d (config_data c.args.config.now) old (state_data c.fail-in-None.new.self) c.args.sent.now.items c.fail-in-None.new.sent.items
-    message host_key share c.args.reply.now.signature.now read told on none gives)
+    (λ gives d message decided read told form. reply_fails m d (config_data c.args.config.now) old (state_data c.fail-in-None.new.self) c.args.sent.now.items c.fail-in-None.new.sent.items
+    message host_key share c.args.reply.now.signature.now read told (decided ∙ c.if-not-trusted.false) none gives)
     c.fail-in-None.ensures.gives
 
 pub returns-in-Some-clause-receives : goal.returns-in-Some-clause-receives
 returns-in-Some-clause-receives g c =
     let m = g.S.Suite.meaning c.args.suite.now in
-    let d = g.D.Decisions.policy c.args.decisions.now in
     let old = state_data c.args.self.now in
     let random : List ℕ = (config_data c.args.config.now).random in
     let host_key : List ℕ = c.args.reply.now.host_key.now in
     let share : List ℕ = c.args.reply.now.share.now in
     let names : c.unwrap-algorithms.result.now ≡ old.known.algorithms = search rules in
-    let on : d.host_key old.known.algorithms.host_key host_key ≡ true =
-    decided (λ (name : List ℕ). d.host_key name host_key) c.host_key.result.now old.known.algorithms.host_key c.host_key-2.result true
-    (c.host_key.ensures.host_key ∙ ap (λ a. a.host_key) names) c.host_key-2.ensures c.if-not-host_key.false in
     let given : m.shared old.known.algorithms.kex random share ≡ Some c.in-Some.shared.items =
     made_some (λ v. v.items) (λ (k r : List ℕ). m.shared k r share) c.kex.result.now old.known.algorithms.kex c.exchange_random-random.result.now random c.in_ok-shared.field-0
     c.in-Some.shared (c.kex.ensures.kex ∙ ap (λ a. a.kex) names) c.exchange_random-random.ensures.random c.in_ok-shared.ensures c.in-Some.is in
     on_ok_weaker c.judge_reply.result
-    (λ judged message read told form. reply_judged m d (config_data c.args.config.now) old (state_data c.judge_reply.new.self) c.args.sent.now.items
+    (λ judged d message decided read told form. reply_judged m d (config_data c.args.config.now) old (state_data c.judge_reply.new.self) c.args.sent.now.items
     c.judge_reply.new.sent.items message host_key share c.args.reply.now.signature.now read told (role_of c.args.config.now) c.deref.result.now
-    c.in-Some.shared.items c.requires.client c.deref.ensures.value on given c.requires.open c.requires.at form judged)
+    c.in-Some.shared.items c.requires.client c.deref.ensures.value (decided ∙ c.if-not-trusted.false) given c.requires.open c.requires.at form judged)
     c.judge_reply.ensures.judges
