@@ -241,7 +241,13 @@ class Source:
         own = {**self.imports, **imports_of(self.lines[at:self.end_of(at) + 1] if at < len(self.lines) else [])[0]}
         supers = book.types(re.search(r'trait \w+([^{]*)', text)[1], self, it.name) if not view else []
         ghost = view or '\n'.join(re.findall(r'ghost [^\n]*', text))
-        return supers + book.resolve(ghost, own, self.aliases, None, bound_by(ghost))
+        return supers + self.looked_into(fields, view, it.name, book) + book.resolve(ghost, own, self.aliases, None, bound_by(ghost))
+
+    def looked_into(self, fields, view, own, book):
+        """The types of the fields into which a view looks: what contracts see of such a field is its type's own view."""
+        kinds = dict(re.findall(r'(?m)^\s+(?:pub(?:\(\w+\))? )?(\w+): (.*),$', fields))
+        looked = dict.fromkeys(re.findall(r'\b\w+\.(\w+)\.\w', view))
+        return [it for name in looked if name in kinds for it in book.types(kinds[name], self, own)[:1]]
 
     def public_clauses(self):
         """What the public sees claimed here: (item, kind, name, text) of each clause of a public function and of a public

@@ -1,7 +1,7 @@
 -- Calls of an asking endpoint, one after another.
 
 use Rattle.std.proofs.Common.{◌≡◌, inl, inr, ℕ, ◌+◌, ◌-◌, ◌≤◌, Bool, false, List, [], ◌∷◌, ◌++◌, length, take, drop, Option, None, Some, refl, sym, ap, subst, ◌∙◌, append_assoc, arith}
-use Rattle.std.specs.Prelude.{◌%◌, ◌^◌, IfSome, is_some, true}
+use Rattle.std.specs.Prelude.{◌%◌, ◌^◌, is_some, true}
 use Rattle.std.proofs.lemmas.Bool.{true≢false}
 use Rattle.std.proofs.lemmas.List.{append-nil, length-drop, length-take-le}
 use Rattle.std.proofs.Math.Seq.{take-add, take-append-add, take-length}
@@ -27,7 +27,7 @@ use Rattle.sshcore.specs.Output.{sent_from}
 use Rattle.sshcore.specs.QuestionAt.{question_at}
 use Rattle.sshcore.specs.Questions.{AnswerData, HostKeyQuestion, QuestionData, SignatureQuestion, UserQuestion, decided, decided_by, found_in, is_yes, taken, taken_by}
 use Rattle.sshcore.specs.StateData.{StateData, keys_due, state_data}
-use Rattle.sshcore.specs.Unread.{AnswerSteps, AnsweredBy, AskingStands, AskingSteps, IsAsked, IsAskingEndpoint, IsTurned, IsUnread, ReadsPacket, Turns, reads_with}
+use Rattle.sshcore.specs.Unread.{AnswerSteps, AskingStands, AskingSteps, IsAskingEndpoint, IsTurned, IsUnread, ReadsPacket, Turns, reads_with}
 use Rattle.sshcore.proofs.LawsBelow.{Below}
 use Rattle.sshcore.proofs.FeedLemmas.{SentMore, sent_last, stands_left}
 use Rattle.sshcore.proofs.HistoryLemmas.{Streams, broken}
@@ -144,26 +144,6 @@ module _ (new last : StateData) where
       few (Disconnected reason) = omega arith
   answered_turns (input.Packets p) (input.Lines q) e turned = absurd turned
   answered_turns (input.Lines p) k e turned = absurd turned
-
--- A packet that asked is answered at once, by these decisions: both together are one step.
-pub answered_at_once : (m : SuiteData) (role : Side) (config : ConfigData) (d : DecisionsData) (i j k : Input) (old mid new : StateData) (w : WaitingData) (taken before between after : List ℕ)
-    → AskingSteps m role config i old j mid (Some w) taken before between → AnswerSteps m role config (decided d w.question) w j mid k new between after
-    → Steps (setup_with m d role config) i old k new taken before after
-answered_at_once m role config d i j k old mid new w taken before between after stops answers =
-    subst (λ (x : StateData). Steps (setup_with m d role config) i x k new taken before after) stops.same
-    (subst (λ (l : List ℕ). Steps (setup_with m d role config) i mid k new taken l after) stops.nothing_sent (answers d refl i taken stops.reads))
-
--- a step that stops where a packet asks goes on by what these decisions answer
-pub stepped_by : (m : SuiteData) (role : Side) (config : ConfigData) (d : DecisionsData) (i j k : Input) (old mid new : StateData) (w : Option WaitingData) (taken before between after : List ℕ)
-    → AskingSteps m role config i old j mid w taken before between → AnsweredBy m role config d w j mid k new between after
-    → Steps (setup_with m d role config) i old k new taken before after
-stepped_by m role config d i j k old mid new None taken before between after steps (a, b, e) = rw (a, b, e) (steps d)
-stepped_by m role config d i j k old mid new (Some w) taken before between after stops answers = answered_at_once m role config d i j k old mid new w taken before between after stops answers
-
-pub asked_then : (m : SuiteData) (role : Side) (config : ConfigData) (i j : Input) (old new : StateData) (w : Option WaitingData) (taken before after : List ℕ)
-    → AskingSteps m role config i old j new w taken before after → IfSome w (IsAsked m role config new j)
-asked_then m role config i j old new None taken before after steps = tt
-asked_then m role config i j old new (Some w) taken before after stops = stops.asked
 
 -- what an open endpoint asks is what the packet asks that waits
 pub asks_packet : (m : SuiteData) (role : Side) (config : ConfigData) (kept : StateData) (j : Input) (w : Option WaitingData) → IsAskingEndpoint m role config kept j w

@@ -1,25 +1,25 @@
 -- Calls of an endpoint, one after another.
 
-use Rattle.std.proofs.Common.{◌≡◌, ℕ, ◌+◌, ◌-◌, ◌≤◌, Bool, List, [], ◌∷◌, ◌++◌, length, take, drop, Result, Ok, Err, refl, sym, ap, subst, ◌∙◌, append_assoc, arith}
+use Rattle.std.proofs.Common.{◌≡◌, ℕ, ◌+◌, ◌-◌, ◌≤◌, true, List, [], ◌++◌, length, take, drop, Option, None, Some, Result, Ok, Err, refl, sym, ap, subst, ◌∙◌, append_assoc, arith}
+use Rattle.std.specs.Prelude.{IfSome, is_some}
 use Rattle.std.proofs.lemmas.Bool.{true≢false}
 use Rattle.std.proofs.lemmas.List.{append-nil, length-drop}
 use Rattle.std.proofs.Math.Seq.{take-add, take-length}
 use Rattle.std.specs.Result.{OnErr}
 use Rattle.sshneg.specs.declared.side.Side.{Side}
-use Rattle.sshpacket.specs.KeysData.{KeysData}
 use Rattle.sshpacket.specs.Suite.{SuiteData}
-use Rattle.sshcore.specs.Brings.{Gives}
-use Rattle.sshcore.specs.EndData.{Open, by_owner, disconnects, end_data, parting}
-use Rattle.sshcore.specs.Endpoints.{Breaks, EndpointAfter, Fed, IsSameEndpoint, Leaves, endpoint_end}
+use Rattle.sshcore.specs.Asking.{Answered, AskingAfter, AskingBreaks, AskingCuts, AskingFed, AskingLeaves, IsSameAsking, asked_at, asked_by, asking_end}
+use Rattle.sshcore.specs.AskingData.{AskingData, WaitingData, asking_setup}
+use Rattle.sshcore.specs.EndData.{EndData, Open, by_owner}
+use Rattle.sshcore.specs.Endpoints.{Breaks, Cuts, EndpointAfter, Fed, IsSameEndpoint, Leaves, endpoint_end}
 use Rattle.sshcore.specs.EndpointData.{EndpointData, endpoint_setup}
 use Rattle.sshcore.specs.History.{BrokenOff}
-use Rattle.sshcore.specs.declared.input.Input.{Input}
-use Rattle.sshcore.specs.declared.state.State.{State}
-use Rattle.sshcore.specs.Inputs.{EndpointStands, Steps}
-use Rattle.sshcore.specs.StateData.{state_data}
-use Rattle.sshcore.specs.Output.{sent_from}
 use Rattle.sshcore.specs.EndpointParts.{ConfigData, DecisionsData, setup_with}
-use Rattle.sshcore.proofs.FeedLemmas.{SentMore, sent_last, stands_left}
+use Rattle.sshcore.specs.Questions.{decided_by}
+use Rattle.sshcore.specs.Unread.{IsUnread}
+use Rattle.sshcore.proofs.AskedNothing.{asked_none}
+use Rattle.sshcore.proofs.AskingLemmas as asking
+use Rattle.sshcore.proofs.AskingLemmas.{stands_at_once}
 use Rattle.sshcore.proofs.HistoryLemmas.{broken}
 
 -- what follows a place, as code cuts it out
@@ -105,34 +105,113 @@ module _ {S D : Type 0} (meaning : S → SuiteData) (policy : D → DecisionsDat
         same = same_then old mid new f.same b.same;
       }
 
-  -- a step of what an endpoint keeps is a call that used these bytes
-  pub fed_by : (role : Side) (config : ConfigData) (suite : S) (decisions : D) (i j : Input) (x y : State) (taken before after : List ℕ)
-      → (added : List ℕ) × (after ≡ before ++ added) × Steps (setup_with (meaning suite) (policy decisions) role config) i (state_data x) j (state_data y) taken [] added
-      → Fed meaning policy (record { role = role; config = config; suite = suite; decisions = decisions; input = i; state = x })
-      (record { role = role; config = config; suite = suite; decisions = decisions; input = j; state = y }) taken before after
-  fed_by role config suite decisions i j x y taken before after step = record {
-    added = step.0;
-    appended = step.1;
-    follows = λ h s a. let g = step.2 h s a in
-        subst (λ (l : List ℕ). EndpointStands (setup_with (meaning suite) (policy decisions) role config) (state_data y) j (h ++ taken) (s ++ l)) (sym g.appended) g.stands;
-    uncut = λ h s a owned. absurd (true≢false (sym owned ∙ (step.2 h s a).uncut));
-    same = record { same_role = refl; same_config = refl; same_suite = refl; same_decisions = refl };
-  }
-
-  -- what was sent for its owner, at an endpoint that stood open, is a call that ended it
-  pub leaves_by : SentMore → (role : Side) (config : ConfigData) (suite : S) (decisions : D) (i : Input) (x y : State) (reason : ℕ) (description before after : List ℕ) (strict : Bool) (next : KeysData)
-      → end_data x.end ≡ Open → Gives (meaning suite) config.seed strict next (state_data x) (state_data y) before after (disconnects reason description)
-      → Leaves meaning policy (record { role = role; config = config; suite = suite; decisions = decisions; input = i; state = x })
-      (record { role = role; config = config; suite = suite; decisions = decisions; input = i; state = y }) reason description before after
-  leaves_by more role config suite decisions i x y reason description before after strict next is gives = record {
-    left = gives.ends;
-    added = sent_from (meaning suite) config.seed strict next (state_data x).sending (parting reason description ∷ []);
-    appended = gives.output;
-    follows = λ h s a. stands_left (setup_with (meaning suite) (policy decisions) role config) (state_data x) i h s is a (state_data y) reason gives.ends;
-    sent = λ h s a. sent_last (setup_with (meaning suite) (policy decisions) role config) (state_data x) i h s is a more reason description strict next;
-    same = record { same_role = refl; same_config = refl; same_suite = refl; same_decisions = refl };
-  }
-
-  -- and one that ran out of memory sent nothing
+  -- a call that ran out of memory sent nothing
   pub breaks_same : (e new : EndpointData S D) (piece before after : List ℕ) → IsSameEndpoint e new → after ≡ before → Breaks meaning policy e new piece before after
   breaks_same e new piece before after same is = subst (λ (l : List ℕ). Breaks meaning policy e new piece before l) (sym is) (breaks_none e new piece before same)
+
+-- An endpoint that asks and waits for nothing, with decisions.
+module _ {S D : Type 0} (meaning : S → SuiteData) (policy : D → DecisionsData) (decisions : D) where
+  abbrev pub endpoint_of : AskingData S → EndpointData S D
+  endpoint_of a = record { role = a.role; config = a.config; suite = a.suite; decisions = decisions; input = a.input; state = a.state }
+
+  abbrev pub as_asking : (a : AskingData S) (h s : List ℕ) → a.waiting ≡ None → EndpointAfter meaning policy (endpoint_of a) h s → AskingAfter meaning (policy decisions) a h s
+  as_asking a h s none e = record {
+    earlier = h;
+    reader = a.input;
+    stands = e;
+    unread = subst (λ (w : Option WaitingData). IsUnread (meaning a.suite) a.input h w a.input h) (sym none) (refl, refl);
+  }
+
+  pub as_endpoint : (a : AskingData S) (h s : List ℕ) → a.waiting ≡ None → AskingAfter meaning (policy decisions) a h s → EndpointAfter meaning policy (endpoint_of a) h s
+  as_endpoint a h s none x = stands_at_once meaning (policy decisions) a h s none x
+
+  pub same_of : (a b : AskingData S) → IsSameAsking a b → IsSameEndpoint (endpoint_of a) (endpoint_of b)
+  same_of a b same = record { same_role = same.same_role; same_config = same.same_config; same_suite = same.same_suite; same_decisions = refl }
+
+  pub none_asked : (a : AskingData S) → a.waiting ≡ None → asked_by a ≡ None
+  none_asked a none = ap (asked_at (asking_end a)) none ∙ asked_none (asking_end a)
+
+  -- a step that asked nothing
+  fed_quiet : (old new : AskingData S) (taken before after : List ℕ) → old.waiting ≡ None → new.waiting ≡ None → AskingFed meaning old new taken before after
+      → Fed meaning policy (endpoint_of old) (endpoint_of new) taken before after
+  fed_quiet old new taken before after none quiet f = record {
+    added = f.added;
+    appended = f.appended;
+    follows = λ h s e. as_endpoint new (h ++ taken) (s ++ f.added) quiet (f.follows (policy decisions) h s (as_asking old h s none e));
+    uncut = λ h s e owned. f.uncut (policy decisions) h s (as_asking old h s none e) owned;
+    same = same_of old new f.same;
+  }
+
+  -- a step that asked, and was answered by the decisions
+  fed_decided : (old mid new : AskingData S) (taken before between after : List ℕ) → old.waiting ≡ None → AskingFed meaning old mid taken before between
+      → Answered meaning (decided_by (policy decisions) (asked_by mid)) mid new between after → Fed meaning policy (endpoint_of old) (endpoint_of new) taken before after
+  fed_decided old mid new taken before between after none f g = record {
+    added = f.added ++ g.added;
+    appended = g.appended ∙ ap (λ (x : List ℕ). x ++ g.added) f.appended ∙ append_assoc before f.added g.added;
+    follows = λ h s e. subst (λ (x : List ℕ). EndpointAfter meaning policy (endpoint_of new) (h ++ taken) x) (append_assoc s f.added g.added)
+        (as_endpoint new (h ++ taken) ((s ++ f.added) ++ g.added) g.waits_for_none
+        (g.follows (policy decisions) refl (h ++ taken) (s ++ f.added) (f.follows (policy decisions) h s (as_asking old h s none e))));
+    uncut = λ h s e owned. absurd (true≢false (sym owned ∙ g.uncut (policy decisions) refl (h ++ taken) (s ++ f.added) (f.follows (policy decisions) h s (as_asking old h s none e))));
+    same = same_of old new (asking.same_then old mid new f.same g.same);
+  }
+
+  -- one of both: then it waits for nothing
+  pub fed_of : (old mid new : AskingData S) (taken before between after : List ℕ) → old.waiting ≡ None → AskingFed meaning old mid taken before between
+      → IfSome mid.waiting (λ w. (asking_end mid ≡ Open) × (between ≡ before)) → (asked_by mid ≡ None → (new ≡ mid) × (after ≡ between))
+      → (is_some (asked_by mid) ≡ true → Answered meaning (decided_by (policy decisions) (asked_by mid)) mid new between after)
+      → (new.waiting ≡ None) × Fed meaning policy (endpoint_of old) (endpoint_of new) taken before after
+  fed_of old mid new taken before between after none f waits quiet decided = by mid.waiting refl
+    where
+      by : (w : Option WaitingData) → mid.waiting ≡ w → (new.waiting ≡ None) × Fed meaning policy (endpoint_of old) (endpoint_of new) taken before after
+      by None is =
+          let same = quiet (none_asked mid is) in (
+            ap (λ (a : AskingData S). a.waiting) same.0 ∙ is,
+            subst (λ (a : AskingData S). Fed meaning policy (endpoint_of old) (endpoint_of a) taken before after) (sym same.0)
+                (subst (λ (l : List ℕ). Fed meaning policy (endpoint_of old) (endpoint_of mid) taken before l) (sym same.1) (fed_quiet old mid taken before between none is f)),
+          )
+      by (Some w) is =
+          let is_open = (subst (λ (x : Option WaitingData). IfSome x (λ w. (asking_end mid ≡ Open) × (between ≡ before))) is waits).0 in
+          let g = decided (ap is_some (ap (asked_at (asking_end mid)) is ∙ ap (λ (e : EndData). asked_at e (Some w)) is_open)) in
+          (g.waits_for_none, fed_decided old mid new taken before between after none f g)
+
+  -- memory ran out in the step
+  pub breaks_of : (old new : AskingData S) (piece before after : List ℕ) → old.waiting ≡ None → AskingBreaks meaning old new piece before after → Breaks meaning policy (endpoint_of old) (endpoint_of new) piece before after
+  breaks_of old new piece before after none b = record {
+    used = b.used;
+    within = b.within;
+    added = b.added;
+    appended = b.appended;
+    follows = λ h s e.
+        let x = b.follows (policy decisions) h s (as_asking old h s none e) in
+        subst (λ (l : List ℕ). BrokenOff (asking_setup meaning (policy decisions) old) l (s ++ b.added))
+        (sym (x.received ∙ ap (λ (u : List ℕ). x.earlier ++ u) (x.all none) ∙ append-nil x.earlier)) x.broken;
+    same = same_of old new b.same;
+  }
+
+  -- or in the answer: then something was asked, and nothing was sent
+  pub breaks_deciding : (old mid new : AskingData S) (piece before between after : List ℕ) → IfSome mid.waiting (λ w. (asking_end mid ≡ Open) × (between ≡ before)) → (asked_by mid ≡ None → ⊥)
+      → IsSameAsking old mid → IsSameAsking mid new → after ≡ between → Breaks meaning policy (endpoint_of old) (endpoint_of new) piece before after
+  breaks_deciding old mid new piece before between after waits asked one two is =
+      breaks_same meaning policy (endpoint_of old) (endpoint_of new) piece before after (same_of old new (asking.same_then old mid new one two)) (is ∙ by mid.waiting refl)
+    where
+      by : (w : Option WaitingData) → mid.waiting ≡ w → between ≡ before
+      by None none = absurd (asked (none_asked mid none))
+      by (Some w) some = (subst (λ (x : Option WaitingData). IfSome x (λ w. (asking_end mid ≡ Open) × (between ≡ before))) some waits).1
+
+  pub cuts_of : (old new : AskingData S) → old.waiting ≡ None → new.waiting ≡ old.waiting → AskingCuts meaning old new → Cuts meaning policy (endpoint_of old) (endpoint_of new)
+  cuts_of old new none same c = record {
+    cut = c.cut;
+    follows = λ h s e. as_endpoint new h s (same ∙ none) (c.follows (policy decisions) h s (as_asking old h s none e));
+    same = same_of old new c.same;
+  }
+
+  pub leaves_of : (old new : AskingData S) (reason : ℕ) (description before after : List ℕ) → old.waiting ≡ None → new.waiting ≡ old.waiting → AskingLeaves meaning old new reason description before after
+      → Leaves meaning policy (endpoint_of old) (endpoint_of new) reason description before after
+  leaves_of old new reason description before after none same l = record {
+    left = l.left;
+    added = l.added;
+    appended = l.appended;
+    follows = λ h s e. as_endpoint new h s (same ∙ none) (l.follows (policy decisions) h s (as_asking old h s none e));
+    sent = λ h s e. l.sent (policy decisions) h s (as_asking old h s none e);
+    same = same_of old new l.same;
+  }

@@ -107,11 +107,6 @@ abbrev pub AnswerSteps : SuiteData → Side → ConfigData → AnswerData → Wa
 AnswerSteps m role config answer w j old k new before after =
     (d : DecisionsData) → decided d w.question ≡ answer → (i : Input) (taken : List ℕ) → ReadsPacket m i j w taken → Steps (setup_with m d role config) i old k new taken before after
 
--- What became of the packet that waits, if one does: it was answered as these decisions answer it. Without one nothing changed.
-abbrev pub AnsweredBy : SuiteData → Side → ConfigData → DecisionsData → Option WaitingData → Input → StateData → Input → StateData → List ℕ → List ℕ → Type 0
-AnsweredBy m role config d None j old k new before after = (k ≡ j) × (new ≡ old) × (after ≡ before)
-AnsweredBy m role config d (Some w) j old k new before after = AnswerSteps m role config (decided d w.question) w j old k new before after
-
 -- The keys that are due after a packet are taken into use (RFC 4253 section 7.3), from number 0 where the endpoint is strict.
 abbrev pub reads_with : Option KeysData → Bool → PacketReaderData → PacketReaderData
 reads_with None strict r = r

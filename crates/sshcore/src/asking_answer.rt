@@ -3,7 +3,7 @@
 ghost use Rattle.std.specs.Prelude.{◌≡◌, ◌≤◌, ◌++◌, ℕ, List, [], None, Ok, OnErr, OnOk, Some, is_some, option_map, true, false};
 ghost use Rattle.sshpacket.specs.Suite.{SuiteData};
 ghost use Rattle.sshcore.specs.declared.end.Fault.TheVariants as fault;
-ghost use Rattle.sshcore.specs.Asking.{Answered, AskingAfter, AskingBreaks, asked_by, asking_end};
+ghost use Rattle.sshcore.specs.Asking.{Answered, AskingAfter, AskingBreaks, IsSameAsking, asked_by, asking_end, asking_turns};
 ghost use Rattle.sshcore.specs.AskingData.{WaitingData, asking_setup};
 ghost use Rattle.sshcore.specs.Brings.{IsOngoing};
 ghost use Rattle.sshcore.specs.EndData.{Failed, Open, by_input, end_data};
@@ -13,23 +13,26 @@ ghost use Rattle.sshcore.specs.Inputs.{CanRead, EndpointStands, turns_left};
 ghost use Rattle.sshcore.specs.declared.asking_given.Answer.TheVariants as given;
 ghost use Rattle.sshcore.specs.QuestionsView.{answer_data, question_data};
 ghost use Rattle.sshcore.specs.QuestionAt.{question_at};
-ghost use Rattle.sshcore.specs.Questions.{Decided, taken, taken_by};
+ghost use Rattle.sshcore.specs.Questions.{Decided, decided_by, taken, taken_by};
 ghost use Rattle.sshcore.specs.Keeping.{StillFits};
 ghost use Rattle.sshcore.specs.StateData.{state_data};
 ghost use Rattle.sshcore.specs.Unread.{AnswerSteps, IsAsked, IsIdle, IsTurned};
 ghost use Rattle.sshcore.specs.WaitingView.{waiting_data};
 
 use crate::asking_endpoint::AskingEndpoint;
-use crate::asking_given::{Answer, Listener};
+use crate::asking_given::{Answer, Given, Listener};
 use crate::asking_input::turn;
 use crate::asking_question::Question;
 use crate::asking_waiting::Waiting;
 use crate::config::Config;
+use crate::decisions::Decisions;
 use crate::end::{End, Fault};
 use crate::input::Input;
+use crate::lent::set;
 use crate::state::State;
 use sshpacket::Suite;
 use sshwire::Memory;
+use std::alloc::Global;
 
 impl<S: Suite, L: Listener> AskingEndpoint<'_, S, L> {
     /// What is asked: there is a question exactly while the endpoint waits for an answer and is open. Takes no memory.
@@ -97,12 +100,56 @@ impl<S: Suite, L: Listener> AskingEndpoint<'_, S, L> {
         self.answer_so(Answer::Signed(signature), out)
     }
 
+    /// Answers what is asked, if something is, by these decisions.
+    pub(crate) fn decide<D: Decisions>(
+        &mut self,
+        decisions: &D,
+        out: &mut Vec<u8>,
+    ) -> Result<(), Memory>
+        ensures decided { is_some (asked_by self.old) ≡ true → OnOk result (Answered S.meaning (decided_by (D.policy decisions.now) (asked_by self.old)) self.old self.new out.old.items out.new.items) }
+        ensures memory { OnErr result ((asking_end self.new ≡ Failed fault.Memory) × (self.new.waiting ≡ None) × (out.new.items ≡ out.old.items) × IsSameAsking self.old self.new) }
+        ensures kept { OnOk result (by_input (asking_end self.old) ≡ true → by_input (asking_end self.new) ≡ true) }
+        ensures turns { OnOk result (asking_turns self.new ≤ asking_turns self.old) }
+        ensures none { asked_by self.old ≡ None → (result ≡ Ok tt) × (self.new ≡ self.old) × (out.new ≡ out.old) }
+    {
+        let alloc = self.alloc();
+        let given = match self.question() {
+            None => return Ok(()),
+            Some(question) => Given::by(alloc, decisions, question),
+        };
+        match given {
+            Ok(given) => self.answer_so(given.answer(), out),
+            Err(_) => {
+                self.run_out();
+                Err(Memory)
+            }
+        }
+    }
+
+    /// An allocation failed: it has failed, and waits for nothing.
+    fn run_out(&mut self)
+        ensures failed { asking_end self.new ≡ Failed fault.Memory }
+        ensures waits { self.new.waiting ≡ None }
+        ensures same { IsSameAsking self.old self.new }
+    {
+        set(&mut self.waiting, None);
+        let state = &mut self.state;
+        set(&mut state.end, End::Failed(Fault::Memory));
+    }
+
+    /// Where it has its memory from.
+    fn alloc(&self) -> Global {
+        self.state.alloc
+    }
+
     /// Answers the question so.
     fn answer_so(&mut self, answer: Answer<'_>, out: &mut Vec<u8>) -> Result<(), Memory>
         ensures answered { is_some (asked_by self.old) ≡ true → OnOk result (Answered S.meaning (taken_by (asked_by self.old) (answer_data answer.entry)) self.old self.new out.old.items out.new.items) }
         ensures memory { OnErr result ((asking_end self.new ≡ Failed fault.Memory) × (out.new.items ≡ out.old.items) × AskingBreaks S.meaning self.old self.new [] out.old.items out.new.items) }
         ensures kept { OnOk result (asking_end self.new ≡ Failed fault.Memory → asking_end self.old ≡ Failed fault.Memory) }
         ensures owned { OnOk result (by_input (asking_end self.new) ≡ false → asking_end self.old ≡ asking_end self.new) }
+        ensures turns { OnOk result (asking_turns self.new ≤ asking_turns self.old) }
+        ensures broken { OnErr result (self.new.waiting ≡ None) }
         ensures none { asked_by self.old ≡ None → (result ≡ Ok tt) × (self.new ≡ self.old) × (out.new ≡ out.old) }
     {
         if !self.is_open() {
@@ -147,6 +194,7 @@ fn answer_given<S: Suite>(
     ensures reads { OnOk result (IsOngoing (end_data state.new.end) → CanRead (S.meaning suite.now) input.new) }
     ensures keeps { OnOk result (StillFits (S.meaning suite.now) (config_data config.now) (state_data state.old) (state_data state.new)) }
     ensures kept { OnOk result (by_input (end_data state.new.end) ≡ true) }
+    ensures turns { OnOk result (turns_left (end_data state.new.end) input.new ≤ turns_left Open input.old) }
     ensures memory { OnErr result (out.new.items ≡ out.old.items) }
 {
     let mut sent = Vec::new(state.alloc);
@@ -156,7 +204,7 @@ fn answer_given<S: Suite>(
 }
 
 /// Answers a packet that asked; what is sent to it is appended to `sent`.
-pub(crate) fn answer_packet<S: Suite>(
+fn answer_packet<S: Suite>(
     input: &mut Input,
     state: &mut State<'_>,
     config: &Config<'_>,

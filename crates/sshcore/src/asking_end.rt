@@ -33,6 +33,7 @@ impl<S: Suite, L: Listener> AskingEndpoint<'_, S, L> {
         ensures cuts { asking_end self.old ≡ Open → AskingCuts S.meaning self.old self.new }
         // What `phase`, `is_strict` and `algorithms` tell is as it was.
         ensures shows { ShowsTheSame self.old.state self.new.state }
+        ensures waits { self.new.waiting ≡ self.old.waiting }
         ensures ended { asking_end self.old ≢ Open → self.new ≡ self.old }
     {
         if self.is_open() {
@@ -59,6 +60,7 @@ impl<S: Suite, L: Listener> AskingEndpoint<'_, S, L> {
         ensures leaves { asking_end self.old ≡ Open → OnOk result (AskingLeaves S.meaning self.old self.new reason description.now out.old.items out.new.items) }
         // What `phase`, `is_strict` and `algorithms` tell is as it was.
         ensures shows { OnOk result (ShowsTheSame self.old.state self.new.state) }
+        ensures waits { self.new.waiting ≡ self.old.waiting }
         ensures memory { OnErr result ((asking_end self.new ≡ Failed fault.Memory) × (out.new.items ≡ out.old.items) × AskingBreaks S.meaning self.old self.new [] out.old.items out.new.items) }
         ensures ended { asking_end self.old ≢ Open → (result ≡ Ok tt) × (self.new ≡ self.old) × (out.new ≡ out.old) }
     {

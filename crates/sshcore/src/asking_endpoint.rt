@@ -1,6 +1,6 @@
 //! One endpoint that asks and waits, fed with bytes.
 
-ghost use Rattle.std.specs.Prelude.{◌≡◌, ◌≢◌, ◌<◌, ◌≤◌, ◌+◌, ◌*◌, ◌↔◌, ◌++◌, ℕ, IfOk, IsTrue, List, [], None, Ok, OnErr, OnOk, is_some, length, take, true, false};
+ghost use Rattle.std.specs.Prelude.{◌≡◌, ◌≢◌, ◌<◌, ◌≤◌, ◌+◌, ◌*◌, ◌↔◌, ◌++◌, ℕ, IfOk, IfSome, IsTrue, List, [], None, Ok, OnErr, OnOk, is_some, length, take, true, false};
 ghost use Rattle.sshneg.specs.declared.side.Side.TheVariants.{Client, Server};
 ghost use Rattle.sshcore.specs.declared.asking_endpoint.Fed.TheVariants as fed;
 ghost use Rattle.sshcore.specs.declared.end.Fault.TheVariants as fault;
@@ -133,7 +133,7 @@ impl<'a, S: Suite, L: Listener> AskingEndpoint<'a, S, L> {
     }
 
     /// An endpoint that has received nothing yet.
-    fn begin(
+    pub(crate) fn begin(
         alloc: Global,
         config: Config<'a>,
         suite: &'a S,
@@ -184,20 +184,29 @@ impl<'a, S: Suite, L: Listener> AskingEndpoint<'a, S, L> {
     {
         let mut used = 0;
         while used < piece.len() && self.is_ready() {
-            used += self.take(&piece[used..], out)?;
+            let listener = self.listener;
+            used += self.take_for(listener, &piece[used..], out)?;
         }
         Ok(self.fed(used))
     }
 
-    /// Reads on up to the end of one unit.
-    fn take(&mut self, piece: &[u8], out: &mut Vec<u8>) -> Result<usize, Memory>
+    /// Reads on up to the end of one unit, and tells this listener what that tells people.
+    pub(crate) fn take_for<T: Listener>(
+        &mut self,
+        listener: &T,
+        piece: &[u8],
+        out: &mut Vec<u8>,
+    ) -> Result<usize, Memory>
         requires ready { IsReadyForBytes self.old }
         requires some { 0 < length piece.now }
         ensures fed { IfOk result (λ used. AskingFed S.meaning self.old self.new (take used piece.now) out.old.items out.new.items) }
         ensures used { IfOk result (λ used. used ≤ length piece.now) }
         ensures turns { IfOk result (λ used. asking_turns self.new < asking_turns self.old + 3 * used) }
         ensures nothing { IfOk result (λ used. used ≡ 0 → asked_by self.new ≡ None) }
+        // Where it waits it is open, and nothing was sent.
+        ensures waits { IfOk result (λ used. IfSome self.new.waiting (λ w. (asking_end self.new ≡ Open) × (out.new.items ≡ out.old.items))) }
         ensures memory { OnErr result ((asking_end self.new ≡ Failed fault.Memory) × AskingBreaks S.meaning self.old self.new piece.now out.old.items out.new.items) }
+        ensures broken { OnErr result (self.new.waiting ≡ self.old.waiting) }
         ensures kept { OnOk result (by_input (asking_end self.new) ≡ true) }
     {
         let received = receive(
@@ -205,7 +214,7 @@ impl<'a, S: Suite, L: Listener> AskingEndpoint<'a, S, L> {
             &mut self.state,
             &self.config,
             self.suite,
-            self.listener,
+            listener,
             piece,
             out,
         );

@@ -28,6 +28,11 @@ impl Listener for Silent {
     }
 }
 
+/// A listener that does nothing, lent for good.
+pub(crate) fn told_to_nobody() -> &'static Silent {
+    &Silent
+}
+
 /// Decisions as the listener that they are.
 #[derive(Clone, Copy)]
 pub(crate) struct Tells<'d, D: Decisions> {

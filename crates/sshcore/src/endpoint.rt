@@ -4,39 +4,31 @@ ghost use Rattle.std.specs.Prelude.{◌≡◌, ◌≢◌, None, Some, ◌<◌, �
 ghost use Rattle.sshneg.specs.declared.side.Side.TheVariants.{Client, Server};
 ghost use Rattle.sshpacket.specs.declared.limits.TheConstants.{PACKET_LIMIT};
 ghost use Rattle.sshcore.specs.declared.end.Fault.TheVariants as fault;
-ghost use Rattle.sshcore.specs.EndData.{AgreedData, Authenticated, Failed, Open, by_input, end_data};
+ghost use Rattle.sshcore.specs.EndData.{AgreedData, Authenticated, Failed, Open, by_input};
 ghost use Rattle.sshcore.specs.EndpointParts.{config_of_client, config_of_server};
 ghost use Rattle.sshcore.specs.Before.{strict_at};
-ghost use Rattle.sshcore.specs.Brings.{IsOngoing};
-ghost use Rattle.sshcore.specs.EndpointConfig.{config_data, role_of, setup_of};
+ghost use Rattle.sshcore.specs.EndpointConfig.{config_data, role_of};
 ghost use Rattle.sshcore.specs.Endpoints.{Breaks, Cuts, EndpointAfter, EndpointMade, Fed, HasUnfinished, Leaves, buffered_of, endpoint_end, turns_of};
-ghost use Rattle.sshcore.specs.Inputs.{CanRead, Steps, turns_left};
 ghost use Rattle.sshcore.specs.Directions.{payloads_in};
 ghost use Rattle.sshcore.specs.Exchange.{algorithms_at};
-ghost use Rattle.sshcore.specs.StateData.{state_data};
 ghost use Rattle.sshcore.specs.NamesView.{names_of};
 ghost use Rattle.sshcore.specs.Phases.{past_kexinit, phase_at};
 ghost use Rattle.sshcore.specs.Redrawn.{redrawn_client, redrawn_server};
 ghost use Rattle.sshcore.specs.Sessions.{IsSession};
 ghost use Rattle.sshcore.specs.Shown.{ShowsTheSame};
 ghost use Rattle.sshcore.specs.EndpointData.{endpoint_setup};
-ghost use Rattle.sshcore.specs.Unread.{AnsweredBy, IsAsked};
-ghost use Rattle.sshcore.specs.WaitingView.{waiting_of};
 
-use crate::asking_answer::answer_packet;
-use crate::asking_given::{Given, Tells};
-use crate::asking_waiting::Waiting;
+use crate::asking_endpoint::AskingEndpoint;
+use crate::asking_given::{Silent, Tells, told_to_nobody};
 use crate::config::Config;
 use crate::config_client::ClientConfig;
 use crate::config_draws::Draws;
 use crate::config_server::ServerConfig;
 use crate::decisions::Decisions;
-use crate::end::{End, Fault};
-use crate::input::Input;
+use crate::end::End;
 use crate::kex_chosen_names::ChosenNames;
 use crate::phase_table::Phase;
-use crate::session::{Session, accepted_by, session_of};
-use crate::state::State;
+use crate::session::Session;
 use sshpacket::Suite;
 use sshwire::Memory;
 use std::alloc::Global;
@@ -46,19 +38,14 @@ use std::marker::Model;
 /// authenticated user (RFC 4253, RFC 4252).
 #[derive(Drop)]
 pub struct Endpoint<'a, S: Suite, D: Decisions> {
-    config: Config<'a>,
-    suite: &'a S,
+    /// The same without decisions. What it asks is answered at once, so between two calls it waits for nothing.
+    asking: AskingEndpoint<'a, S, Silent>,
     decisions: &'a D,
-    input: Input,
-    state: State<'a>,
 }
 
 impl<'a, S: Suite, D: Decisions> Model for Endpoint<'a, S, D> {
-    ghost use Rattle.sshcore.specs.Brings.{IsOngoing};
-    ghost use Rattle.sshcore.specs.EndpointConfig.{config_data, role_of};
-    ghost use Rattle.sshcore.specs.EndData.{end_data};
+    ghost use Rattle.std.specs.Prelude.{◌≡◌, None};
     ghost use Rattle.sshcore.specs.EndpointData.{EndpointData};
-    ghost use Rattle.sshcore.specs.Inputs.{CanRead};
     ghost use Rattle.sshcore.specs.AttemptProps.{IsAttempt-prop};
     ghost use Rattle.sshcore.specs.ConfigRules.{IsAttempt};
     ghost use Rattle.std.specs.Coded.{codes};
@@ -69,15 +56,15 @@ impl<'a, S: Suite, D: Decisions> Model for Endpoint<'a, S, D> {
     ghost coded = { Prim.hlevel (codes, AllByRecursion-prop IsAttempt IsAttempt-prop) };
 
     ghost view = { λ e. record {
-      role = role_of e.config;
-      config = config_data e.config;
-      suite = e.suite.now;
+      role = e.asking.role;
+      config = e.asking.config;
+      suite = e.asking.suite;
       decisions = e.decisions.now;
-      input = e.input;
-      state = e.state;
+      input = e.asking.input;
+      state = e.asking.state;
     } };
 
-    ghost invariant = { λ e. IsOngoing (end_data e.state.end) → CanRead (S.meaning e.suite.now) e.input };
+    ghost invariant = { λ e. e.asking.waiting ≡ None };
 }
 
 impl<'a, S: Suite, D: Decisions> Endpoint<'a, S, D> {
@@ -166,19 +153,8 @@ impl<'a, S: Suite, D: Decisions> Endpoint<'a, S, D> {
         ensures made { IfOk result (λ e. EndpointMade S.meaning D.policy (role_of config.entry) (config_data config.entry) suite.now decisions.now e out.old.items out.new.items) }
         ensures memory { OnErr result (out.new.items ≡ out.old.items) }
     {
-        sshpacket::parser_by_law();
-        sshpacket::stream_law();
-        sshmsg::numbers_law();
-        sshneg::markers_law();
-        let mut state = State::new(alloc, &config);
-        state.send_greeting(&config, suite, out)?;
-        Ok(Endpoint {
-            input: Input::new(alloc, config.role(), config.line_form()),
-            config,
-            suite,
-            decisions,
-            state,
-        })
+        let asking = AskingEndpoint::begin(alloc, config, suite, told_to_nobody(), out)?;
+        Ok(Endpoint { asking, decisions })
     }
 
     /// Reads the next bytes that the peer sent, in any piece, and appends to `out` what is sent to them.
@@ -210,7 +186,7 @@ impl<'a, S: Suite, D: Decisions> Endpoint<'a, S, D> {
         Ok(used)
     }
 
-    /// Reads on up to the end of one unit.
+    /// Reads on up to the end of one unit, and answers what it asks.
     fn take(&mut self, piece: &[u8], out: &mut Vec<u8>) -> Result<usize, Memory>
         requires open { endpoint_end self.old ≡ Open }
         requires some { 0 < length piece.now }
@@ -220,22 +196,10 @@ impl<'a, S: Suite, D: Decisions> Endpoint<'a, S, D> {
         ensures memory { OnErr result ((endpoint_end self.new ≡ Failed fault.Memory) × Breaks S.meaning D.policy self.old self.new piece.now out.old.items out.new.items) }
         ensures kept { OnOk result (by_input (endpoint_end self.new) ≡ true) }
     {
-        let received = receive(
-            &mut self.input,
-            &mut self.state,
-            &self.config,
-            self.suite,
-            self.decisions,
-            piece,
-            out,
-        );
-        match received {
-            Ok(used) => Ok(used),
-            Err(_) => {
-                self.state.end = End::Failed(Fault::Memory);
-                Err(Memory)
-            }
-        }
+        let decisions = self.decisions;
+        let used = self.asking.take_for(&Tells { decisions }, piece, out)?;
+        self.asking.decide(decisions, out)?;
+        Ok(used)
     }
 
     /// The input has ended: an open endpoint fails as `Cut`, another doesn't change. Takes no memory.
@@ -245,9 +209,7 @@ impl<'a, S: Suite, D: Decisions> Endpoint<'a, S, D> {
         ensures shows { ShowsTheSame self.old.state self.new.state }
         ensures ended { endpoint_end self.old ≢ Open → self.new ≡ self.old }
     {
-        if self.is_open() {
-            self.state.end = End::Failed(Fault::Cut);
-        }
+        self.asking.end_of_input();
     }
 
     /// Disconnects: an open endpoint appends to `out` a DISCONNECT with this reason and description (RFC 4253
@@ -271,27 +233,14 @@ impl<'a, S: Suite, D: Decisions> Endpoint<'a, S, D> {
         ensures memory { OnErr result ((endpoint_end self.new ≡ Failed fault.Memory) × (out.new.items ≡ out.old.items) × Breaks S.meaning D.policy self.old self.new [] out.old.items out.new.items) }
         ensures ended { endpoint_end self.old ≢ Open → (result ≡ Ok tt) × (self.new ≡ self.old) × (out.new ≡ out.old) }
     {
-        sshpacket::stream_law();
-        if !self.is_open() {
-            return Ok(());
-        }
-        let sent = self
-            .state
-            .disconnect(&self.config, self.suite, reason, description, out);
-        match sent {
-            Ok(()) => Ok(()),
-            Err(_) => {
-                self.state.end = End::Failed(Fault::Memory);
-                Err(Memory)
-            }
-        }
+        self.asking.disconnect(reason, description, out)
     }
 
     /// How the endpoint stands. Takes no memory.
     pub fn end(&self) -> &End
         ensures { result.now ≡ self.now.state.end }
     {
-        &self.state.end
+        self.asking.end()
     }
 
     /// What it waits for; of an endpoint that has ended, what it waited for last. Takes no memory.
@@ -300,7 +249,7 @@ impl<'a, S: Suite, D: Decisions> Endpoint<'a, S, D> {
         // For every history of an open endpoint: the first phase whose leaving message it hasn't received.
         ensures waits { (h s : List ℕ) (a : EndpointAfter S.meaning D.policy self.now h s) → endpoint_end self.now ≡ Open → phase_at self.now.role self.now.config.offer (payloads_in a.units) ≡ result }
     {
-        self.state.phase
+        self.asking.phase()
     }
 
     /// Whether both sides are strict (OpenSSH's PROTOCOL, strict key exchange); None before the peer's KEXINIT has come,
@@ -312,10 +261,7 @@ impl<'a, S: Suite, D: Decisions> Endpoint<'a, S, D> {
         ensures both { (h s : List ℕ) (a : EndpointAfter S.meaning D.policy self.now h s) → endpoint_end self.now ≡ Open
             → IfSome result (λ strict. strict ≡ strict_at self.now.role self.now.config (payloads_in a.units)) }
     {
-        match &self.state.algorithms {
-            Some(_) => Some(self.state.strict),
-            None => None,
-        }
+        self.asking.is_strict()
     }
 
     /// The names of the algorithms that both KEXINITs choose (RFC 4253 section 7.1); None before the peer's has
@@ -329,10 +275,7 @@ impl<'a, S: Suite, D: Decisions> Endpoint<'a, S, D> {
         ensures chosen { (h s : List ℕ) (a : EndpointAfter S.meaning D.policy self.now h s) → endpoint_end self.now ≡ Open
             → IfSome result (λ names. names_of names ≡ algorithms_at (S.meaning self.now.suite) self.now.role self.now.config (payloads_in a.units)) }
     {
-        match &self.state.algorithms {
-            Some(algorithms) => Some(algorithms.names()),
-            None => None,
-        }
+        self.asking.algorithms()
     }
 
     /// How many bytes of the unfinished line or packet are held, at most `PACKET_LIMIT`; 0 once the
@@ -342,11 +285,7 @@ impl<'a, S: Suite, D: Decisions> Endpoint<'a, S, D> {
         ensures bound { result ≤ PACKET_LIMIT }
         ensures unfinished { (h s : List ℕ) (a : EndpointAfter S.meaning D.policy self.now h s) → HasUnfinished self.now.role a.units a.rest (endpoint_end self.now) result }
     {
-        if self.is_open() {
-            self.input.buffered()
-        } else {
-            0
-        }
+        self.asking.buffered()
     }
 
     /// What goes on after authentication, where the endpoint ended authenticated; None otherwise: what was
@@ -358,93 +297,13 @@ impl<'a, S: Suite, D: Decisions> Endpoint<'a, S, D> {
             → (session : Session) × (result ≡ Some session) × IsSession (endpoint_setup S.meaning D.policy self.entry) p.units p.answers p.sizes a session × (p.rest ≡ []) }
         ensures none { ((a : AgreedData) → endpoint_end self.entry ≢ Authenticated a) → result ≡ None }
     {
-        sshmsg::numbers_law();
-        sshneg::markers_law();
-        let role = self.config.role();
-        let state = self.state;
-        let outgoing = (state.keys_out, state.number_out);
-        let versions = (state.own_version, state.version);
-        let user_key = state.user_key;
-        let accepted = accepted_by(role, &state.completed, user_key);
-        session_of(
-            state.end.into_agreed(),
-            versions,
-            state.host_key,
-            accepted,
-            self.input.into_keys(),
-            outgoing,
-        )
+        self.asking.into_session()
     }
 
     /// Whether it is open.
     fn is_open(&self) -> bool
         ensures { IsTrue result ↔ (endpoint_end self.now ≡ Open) }
     {
-        match self.state.end {
-            End::Open => true,
-            _ => false,
-        }
+        self.asking.is_open()
     }
-}
-
-/// Reads on up to the end of one unit, and answers what it asks; where an allocation failed `out` is unchanged.
-fn receive<S: Suite, D: Decisions>(
-    input: &mut Input,
-    state: &mut State<'_>,
-    config: &Config<'_>,
-    suite: &S,
-    decisions: &D,
-    piece: &[u8],
-    out: &mut Vec<u8>,
-) -> Result<usize, Memory>
-    requires open { end_data state.old.end ≡ Open }
-    requires some { 0 < length piece.now }
-    requires reads { CanRead (S.meaning suite.now) input.old }
-    ensures steps { IfOk result (λ used. (added : List ℕ) × (out.new.items ≡ out.old.items ++ added)
-        × Steps (setup_of (S.meaning suite.now) (D.policy decisions.now) config.now) input.old (state_data state.old) input.new (state_data state.new) (take used piece.now) [] added) }
-    ensures used { IfOk result (λ used. used ≤ length piece.now) }
-    ensures turns { IfOk result (λ used. turns_left (end_data state.new.end) input.new < turns_left (end_data state.old.end) input.old + 3 * used) }
-    ensures reads { OnOk result (IsOngoing (end_data state.new.end) → CanRead (S.meaning suite.now) input.new) }
-    ensures kept { OnOk result (by_input (end_data state.new.end) ≡ true) }
-    ensures memory { OnErr result (out.new.items ≡ out.old.items) }
-{
-    let mut sent = Vec::new(state.alloc);
-    let listener = Tells { decisions };
-    let came = input.receive_asking(state, config, suite, &listener, piece, &mut sent)?;
-    answer_by(
-        input,
-        state,
-        config,
-        suite,
-        decisions,
-        &came.waiting,
-        &mut sent,
-    )?;
-    out.extend_from_slice(&sent)?;
-    Ok(came.used)
-}
-
-/// Answers the packet that waits, if one does, by these decisions.
-fn answer_by<S: Suite, D: Decisions>(
-    input: &mut Input,
-    state: &mut State<'_>,
-    config: &Config<'_>,
-    suite: &S,
-    decisions: &D,
-    waiting: &Option<Waiting>,
-    sent: &mut Vec<u8>,
-) -> Result<(), Memory>
-    requires asked { IfSome (waiting_of waiting.now) (IsAsked (S.meaning suite.now) (role_of config.now) (config_data config.now) (state_data state.old) input.old) }
-    requires reads { IsOngoing (end_data state.old.end) → CanRead (S.meaning suite.now) input.old }
-    ensures answered { OnOk result (AnsweredBy (S.meaning suite.now) (role_of config.now) (config_data config.now) (D.policy decisions.now) (waiting_of waiting.now)
-        input.old (state_data state.old) input.new (state_data state.new) sent.old.items sent.new.items) }
-    ensures turns { OnOk result (turns_left (end_data state.new.end) input.new ≤ turns_left (end_data state.old.end) input.old) }
-    ensures reads { OnOk result (IsOngoing (end_data state.new.end) → CanRead (S.meaning suite.now) input.new) }
-    ensures kept { OnOk result (by_input (end_data state.old.end) ≡ true → by_input (end_data state.new.end) ≡ true) }
-{
-    let Some(waiting) = waiting else {
-        return Ok(());
-    };
-    let given = Given::by(state.alloc, decisions, waiting.pending.question())?;
-    answer_packet(input, state, config, suite, waiting, given.answer(), sent)
 }

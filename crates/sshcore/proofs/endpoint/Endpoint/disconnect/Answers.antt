@@ -1,20 +1,18 @@
-use Rattle.std.proofs.Common.{[], false, refl}
-use Rattle.sshpacket.specs.KeysData.{KeysData}
-use Rattle.sshcore.specs.EndpointConfig.{config_data, role_of}
-use Rattle.sshcore.proofs.CallLemmas.{breaks_same, leaves_by}
+use Rattle.std.proofs.Common.{[]}
+use Rattle.std.proofs.lemmas.Result.{on_err_weaker, on_ok_weaker}
+use Rattle.sshcore.proofs.CallLemmas.{breaks_of, leaves_of}
 use Rattle.sshcore.proofs.endpoint.Endpoint.disconnect.Goals as goal
 
-pub returns-in-Ok-clause-leaves : goal.returns-in-Ok-clause-leaves
-returns-in-Ok-clause-leaves g c =
-    let next : KeysData = record { cipher = []; mac = []; iv = []; enc = []; mac_key = [] } in
-    rw (← c.self.view_is) (λ is. leaves_by g.S.Suite.meaning g.D.Decisions.policy c.stream_law.ensures.sent_append (role_of c.self.inside.config) (config_data c.self.inside.config)
-    c.self.inside.suite.now c.self.inside.decisions.now c.self.inside.input c.self.inside.state c.disconnect-sent.new.self c.args.reason c.args.description.now
-    c.args.out.now.items c.disconnect-sent.new.out.items false next is (c.in-Ok.ensures.gives false next))
+pub returns-clause-leaves : goal.returns-clause-leaves
+returns-clause-leaves g c = rw (← c.self.view_is) (λ is. on_ok_weaker c.disconnect.result
+    (λ leaves. leaves_of g.S.Suite.meaning g.D.Decisions.policy c.self.inside.decisions.now c.self.inside.asking c.disconnect.new.self c.args.reason c.args.description.now c.args.out.now.items c.disconnect.new.out.items
+    c.self.invariant c.disconnect.ensures.waits leaves) (c.disconnect.ensures.leaves is))
 
-pub returns-in-Err-clause-memory : goal.returns-in-Err-clause-memory
-returns-in-Err-clause-memory g c = (
-  refl,
-  c.in-Err.ensures.memory,
-  breaks_same g.S.Suite.meaning g.D.Decisions.policy c.args.self.now _ [] c.args.out.now.items c.disconnect-sent.new.out.items
-      (rw (← c.self.view_is) (record { same_role = refl; same_config = refl; same_suite = refl; same_decisions = refl })) c.in-Err.ensures.memory,
-)
+pub returns-clause-memory : goal.returns-clause-memory
+returns-clause-memory g c = rw (← c.self.view_is) (on_err_weaker c.disconnect.result
+    (λ memory. (
+      memory.0,
+      memory.1,
+      breaks_of g.S.Suite.meaning g.D.Decisions.policy c.self.inside.decisions.now c.self.inside.asking c.disconnect.new.self [] c.args.out.now.items c.disconnect.new.out.items
+          c.self.invariant memory.2,
+    )) c.disconnect.ensures.memory)

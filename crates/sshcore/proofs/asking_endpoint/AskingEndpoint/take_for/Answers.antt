@@ -10,7 +10,7 @@ use Rattle.sshcore.specs.StateData.{StateData, state_data}
 use Rattle.sshcore.specs.Unread.{AskingSteps, IsAskedBy}
 use Rattle.sshcore.specs.WaitingView.{waiting_of}
 use Rattle.sshcore.proofs.AskingLemmas.{breaks_same, fed_from}
-use Rattle.sshcore.proofs.asking_endpoint.AskingEndpoint.take.Goals as goal
+use Rattle.sshcore.proofs.asking_endpoint.AskingEndpoint.take_for.Goals as goal
 
 pub returns-in-Ok-clause-fed : goal.returns-in-Ok-clause-fed
 returns-in-Ok-clause-fed g c =
