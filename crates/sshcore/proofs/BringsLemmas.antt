@@ -1,6 +1,6 @@
 -- What a packet brings by each line of the phase table.
 
-use Rattle.std.proofs.Common.{◌≡◌, ◌≢◌, inl, inr, ℕ, ◌==◌, Bool, true, false, List, [], ◌∷◌, Ok, refl, sym, ap, subst, ◌∙◌}
+use Rattle.std.proofs.Common.{◌≡◌, ◌≢◌, inl, inr, ℕ, ◌==◌, Bool, true, false, List, [], ◌∷◌, None, Ok, refl, sym, ap, subst, ◌∙◌}
 use Rattle.std.specs.Prelude.{◌&&◌, ◌||◌, not}
 use Rattle.std.proofs.lemmas.Bool.{cases_Bool, true≢false}
 use Rattle.sshmsg.specs.MessageData.{MessageData, Unimplemented}
@@ -8,13 +8,15 @@ use Rattle.sshmsg.specs.Messages.{message_in}
 use Rattle.sshmsg.specs.Numbers.{message_number}
 use Rattle.sshmsg.specs.Written.{written_message}
 use Rattle.sshneg.specs.declared.side.Side.{Side}
-use Rattle.sshpacket.specs.KeysData.{KeysData}
+use Rattle.sshpacket.specs.Stream.{Units}
 use Rattle.sshcore.specs.declared.end.Fault.{Fault}
 use Rattle.sshcore.specs.declared.phase_table.Disposition.{Disposition}
 use Rattle.sshcore.specs.declared.phase_table.Disposition.TheVariants as disposition
 use Rattle.sshcore.specs.declared.phase_table.Phase.{Phase}
 use Rattle.sshcore.specs.IgnoredLimit.{is_taken, overspends}
-use Rattle.sshcore.specs.Brings.{Brings, Drops, Gives, Stays, Works, received_counted, received_one}
+use Rattle.sshcore.specs.declared.reply.Reply as reply
+use Rattle.sshcore.specs.Brings.{Brings, Drops, Stays, Works, received_counted, received_one}
+use Rattle.sshcore.specs.Comes.{Comes, ComesPlainly, ComesTo}
 use Rattle.sshcore.specs.EndData.{Open, Reply, fails, goes}
 use Rattle.sshcore.specs.Judging.{ReadsMessage}
 use Rattle.sshcore.specs.Work.{work}
@@ -23,11 +25,12 @@ use Rattle.sshcore.specs.EndpointParts.{Setup}
 use Rattle.sshcore.specs.Plan.{is_waiting}
 use Rattle.sshcore.specs.Phases.{leaving}
 use Rattle.sshcore.specs.Replies.{disposition_reply, read_reply}
+use Rattle.sshcore.specs.ReplyView.{replied}
 use Rattle.sshcore.specs.Standing.{LeavesNone}
 use Rattle.sshcore.specs.Table.{disposition_by, is_ignored, is_of_auth, is_of_method, is_ruled, is_unknown, takes_extensions}
 use Rattle.sshcore.proofs.AfterLemmas.{after_counted, carried_stays}
 use Rattle.sshcore.proofs.TableLemmas.{Closing, Dropped, Leaving, OffGuess, OffPhase, Sees, Staying, Useless, sees}
-use Rattle.sshcore.proofs.WorksLemmas.{failed_ends, silent}
+use Rattle.sshcore.proofs.WorksLemmas.{failed_ends}
 
 -- the line that the code has found
 pub disposition_is : (l : Disposition) (role same_role : Side) (p : Phase) (strict guess waits same_waits : Bool) (n same_number : ℕ) → same_role ≡ role → same_waits ≡ waits
@@ -108,40 +111,54 @@ not_unknown n e = record {
 }
 
 module _ (setup : Setup) (old new : StateData) (packet : ℕ) (payload before after : List ℕ) where
-  pub reads_brings : disposition_by setup.role old.phase old.known.strict old.guess (is_waiting old.known.left) (message_number payload) ≡ disposition.Reads
+  reads_brings : disposition_by setup.role old.phase old.known.strict old.guess (is_waiting old.known.left) (message_number payload) ≡ disposition.Reads
       → overspends old.known.allowance payload ≡ false
       → Works setup old new payload before after (read_reply setup old.known (message_number payload) (message_in old.known.shares payload))
       → Brings setup old new packet payload before after
   unfolding disposition_reply
   reads_brings is within works = rw (is, within) works
 
-  -- it fails, so nothing goes on
-  fails_works : (f : Fault) → ((strict : Bool) (next : KeysData) → Gives setup.suite setup.config.seed strict next old new before after (fails f)) → Works setup old new payload before after (fails f)
-  fails_works f gives = record { gives = gives _ _; moves = λ goes_on. absurd (failed_ends new.end f (gives false (record { cipher = []; mac = []; iv = []; enc = []; mac_key = [] })).ends goes_on) }
-
-  -- so it does by a line that fails it, whatever is decided
-  pub judged_brings : (f : Fault) → disposition_reply setup old.known packet (disposition_by setup.role old.phase old.known.strict old.guess (is_waiting old.known.left) (message_number payload)) payload ≡ fails f
-      → ((strict : Bool) (next : KeysData) → Gives setup.suite setup.config.seed strict next old new before after (fails f))
-      → Brings setup old new packet payload before after
-  judged_brings f is gives = subst (λ (r : Reply). Works setup old new payload before after r) (sym is) (fails_works f gives)
-
   -- a message that is read
   pub message_brings : (c : MessageData) → ReadsMessage setup.role old payload c → message_in old.known.shares payload ≡ Ok c
       → Works setup old new payload before after (work setup old.known c) → Brings setup old new packet payload before after
   message_brings c r read works = reads_brings r.reads r.within (rw read works)
 
-  pub unknown_brings : disposition_by setup.role old.phase old.known.strict old.guess (is_waiting old.known.left) (message_number payload) ≡ disposition.Unknown
-      → overspends old.known.allowance payload ≡ false
-      → ((strict : Bool) (next : KeysData) → Gives setup.suite setup.config.seed strict next old new before after (goes (written_message (Unimplemented packet) ∷ [])))
-      → new ≡ record old { known = received_counted old.known payload; sending = new.sending }
-      → Brings setup old new packet payload before after
+module _ (setup : Setup) (old new : StateData) (packet : ℕ) (payload : List ℕ) where
+  -- it fails, so nothing goes on
+  fails_comes : (answers : Units) (f : Fault) → replied answers new.end ≡ fails f → new.sending ≡ old.sending → ComesPlainly setup old new payload answers (fails f)
+  fails_comes answers f gives unsent = record {
+    reply_is = gives;
+    switches = tt;
+    unsent = unsent;
+    moves = λ goes_on. absurd (failed_ends new.end f (ap (λ (r : Reply). r.end) gives) goes_on);
+  }
+
+  -- so it does by a line that fails it, whatever is decided
+  pub judged_comes : (answers : Units) (f : Fault) → disposition_reply setup old.known packet (disposition_by setup.role old.phase old.known.strict old.guess (is_waiting old.known.left) (message_number payload)) payload ≡ fails f
+      → replied answers new.end ≡ fails f → new.sending ≡ old.sending
+      → ComesTo setup old new packet payload (record { answers = answers; switch = None })
+  judged_comes answers f is gives unsent = subst (λ (r : Reply). ComesPlainly setup old new payload answers r) (sym is) (fails_comes answers f gives unsent)
+
+  -- a message that is read
+  pub message_comes : (made : reply.Reply) (c : MessageData) → ReadsMessage setup.role old payload c → message_in old.known.shares payload ≡ Ok c
+      → Comes setup old new payload made (work setup old.known c) → ComesTo setup old new packet payload made
   unfolding disposition_reply
-  unknown_brings is within gives stays =
+  message_comes made c read is comes = rw (read.reads, read.within, is) comes
+
+  pub unknown_comes : (answers : Units) → disposition_by setup.role old.phase old.known.strict old.guess (is_waiting old.known.left) (message_number payload) ≡ disposition.Unknown
+      → overspends old.known.allowance payload ≡ false
+      → replied answers new.end ≡ goes (written_message (Unimplemented packet) ∷ [])
+      → new ≡ record old { known = received_counted old.known payload }
+      → ComesTo setup old new packet payload (record { answers = answers; switch = None })
+  unfolding disposition_reply
+  unknown_comes answers is within gives stays =
       let seen = unknown setup.role old.phase old.known.strict old.guess (is_waiting old.known.left) (message_number payload) _ (sees setup.role old.phase old.known.strict (is_waiting old.known.left) (message_number payload) old.guess) is in
       let none : old.guess ≡ false = seen.0 in
       let other = not_unknown (message_number payload) (meaningless setup.role old.phase old.known.strict old.guess (is_waiting old.known.left) (message_number payload) is) in
-      let works : Works setup old new payload before after (goes (written_message (Unimplemented packet) ∷ [])) = record {
-        gives = gives _ _;
+      let comes : ComesPlainly setup old new payload answers (goes (written_message (Unimplemented packet) ∷ [])) = record {
+        reply_is = gives;
+        switches = tt;
+        unsent = ap (λ (k : StateData). k.sending) stays;
         moves = λ goes_on. Stays none seen.1
             (ap (λ (k : StateData). k.carried) stays ∙ sym (carried_stays setup.suite setup.decisions setup.config old.known payload old.carried other.request))
             (record {
@@ -150,24 +167,25 @@ module _ (setup : Setup) (old new : StateData) (packet : ℕ) (payload before af
               known_is = ap (λ (k : StateData). k.known) stays ∙ sym (after_counted setup.suite setup.decisions setup.config old.known payload other.newkeys other.request other.failure other.confirmation);
             });
       } in
-      rw (is, within) works
+      rw (is, within) comes
 
--- the packet of a wrong guess is dropped, and nothing is sent
-pub drops_brings : (setup : Setup) (old new : StateData) (packet : ℕ) (payload before : List ℕ)
-    → disposition_by setup.role old.phase old.known.strict old.guess (is_waiting old.known.left) (message_number payload) ≡ disposition.Drops → old.end ≡ Open
-    → new ≡ record old { guess = false; known = received_one old.known }
-    → Brings setup old new packet payload before before
-unfolding disposition_reply
-drops_brings setup old new packet payload before is stays next =
-    let seen = dropped setup.role old.phase old.known.strict old.guess (is_waiting old.known.left) (message_number payload) _ (sees setup.role old.phase old.known.strict (is_waiting old.known.left) (message_number payload) old.guess) is in
-    let works : Works setup old new payload before before (goes []) = record {
-      gives = silent setup.suite setup.config.seed old.known.strict _ old new before Open (ap (λ (k : StateData). k.end) next ∙ stays) (ap (λ (k : StateData). k.sending) next);
-      moves = λ goes_on. Drops seen.0 seen.1
-          (ap (λ (k : StateData). k.carried) next)
-          (record {
-            phase_is = ap (λ (k : StateData). k.phase) next;
-            guess_is = ap (λ (k : StateData). k.guess) next;
-            known_is = ap (λ (k : StateData). k.known) next;
-          });
-    } in
-    rw is works
+  -- the packet of a wrong guess is dropped, and nothing is sent
+  pub drops_comes : disposition_by setup.role old.phase old.known.strict old.guess (is_waiting old.known.left) (message_number payload) ≡ disposition.Drops → old.end ≡ Open
+      → new ≡ record old { guess = false; known = received_one old.known }
+      → ComesTo setup old new packet payload (record { answers = []; switch = None })
+  unfolding disposition_reply
+  drops_comes is stays next =
+      let seen = dropped setup.role old.phase old.known.strict old.guess (is_waiting old.known.left) (message_number payload) _ (sees setup.role old.phase old.known.strict (is_waiting old.known.left) (message_number payload) old.guess) is in
+      let comes : ComesPlainly setup old new payload [] (goes []) = record {
+        reply_is = ap (replied []) (ap (λ (k : StateData). k.end) next ∙ stays);
+        switches = tt;
+        unsent = ap (λ (k : StateData). k.sending) next;
+        moves = λ goes_on. Drops seen.0 seen.1
+            (ap (λ (k : StateData). k.carried) next)
+            (record {
+              phase_is = ap (λ (k : StateData). k.phase) next;
+              guess_is = ap (λ (k : StateData). k.guess) next;
+              known_is = ap (λ (k : StateData). k.known) next;
+            });
+      } in
+      rw is comes

@@ -1,6 +1,6 @@
 -- What an endpoint does at the peer's exchange message, by what it has worked out.
 
-use Rattle.std.proofs.Common.{◌≡◌, inl, inr, ℕ, zero, suc, ◌≤◌, ◌==◌, Bool, true, false, List, [], ◌∷◌, ◌++◌, length, Option, None, Some, Ok, refl, sym, ap, ◌∙◌, subst, append_assoc, arith}
+use Rattle.std.proofs.Common.{◌≡◌, inl, inr, ℕ, zero, suc, ◌≤◌, ◌==◌, Bool, true, false, List, [], ◌∷◌, ◌++◌, length, Option, None, Some, Ok, refl, sym, ap, ◌∙◌, subst, arith}
 use Rattle.std.specs.Prelude.{◌&&◌, nat_lt, option_map}
 use Rattle.std.proofs.lemmas.Bool.{cases_Bool}
 use Rattle.sshwire.specs.Types.{IsBytes}
@@ -23,14 +23,16 @@ use Rattle.sshpacket.specs.Suite.{FitsShare, FitsShared, ResponseData, SuiteData
 use Rattle.sshcore.specs.declared.end.Fault.{Fault}
 use Rattle.sshcore.specs.declared.end.Fault.TheVariants as fault
 use Rattle.sshcore.specs.declared.phase_table.Phase.TheVariants as phase
-use Rattle.sshcore.specs.Brings.{Gives, IsOngoing, StandsAt}
-use Rattle.sshcore.specs.Directions.{spelled_by}
+use Rattle.sshcore.specs.declared.reply.Reply as reply
+use Rattle.sshcore.specs.declared.reply.Switch as switch
+use Rattle.sshcore.specs.Brings.{IsOngoing, StandsAt}
+use Rattle.sshcore.specs.Comes.{SwitchesTo}
 use Rattle.sshcore.specs.EndData.{EndData, Failed, Open, Reply, fails, goes}
 use Rattle.sshcore.specs.Exchange.{answer_with, exchange_with, host_key_read, keys_by, secret_of, share_read}
-use Rattle.sshcore.specs.Exchanged.{Accepts, AnswersInit, HasForm, JudgesReply, ReceivesExchange, Refuses, StandsAfter, client_shares, exchange_of_message, exchanged, kex_keys, server_shares}
-use Rattle.sshcore.specs.History.{AllFit, FitsPacket}
+use Rattle.sshcore.specs.Exchanged.{Accepts, AnswersInit, FailsBy, HasForm, JudgesReply, ReceivesExchange, Refuses, StandsAfter, client_shares, exchange_of_message, exchanged, kex_keys, server_shares, switching}
+use Rattle.sshcore.specs.History.{FitsPacket}
 use Rattle.sshcore.specs.StateData.{StateData, with_exchange}
-use Rattle.sshcore.specs.Output.{Sending, sending_from, sent_from, with_newkeys, with_packet}
+use Rattle.sshcore.specs.ReplyView.{answers_of, replied}
 use Rattle.sshcore.specs.EndpointParts.{ConfigData, DecisionsData}
 use Rattle.sshcore.specs.KnownBefore.{Known}
 use Rattle.sshcore.specs.Phases.{past_exchange, past_kexinit}
@@ -40,9 +42,6 @@ use Rattle.sshcore.specs.Questions.{QuestionData, SignatureQuestion}
 use Rattle.sshcore.specs.Signatures.{fitting}
 use Rattle.sshcore.specs.Step.{asked_in, settled}
 use Rattle.sshcore.specs.Work.{answered_step, init_step, reply_in, reply_step, signed_by, signed_reply, told_by, userauth}
-use Rattle.sshcore.proofs.GivesLemmas.{sent_then}
-use Rattle.sshcore.proofs.HistoryLemmas.{fit_both}
-use Rattle.sshcore.proofs.OutputLemmas.{sent_switch, sent_two}
 
 -- a share and a shared secret in their form are short
 pub share_short : (form : ShareForm) (share : List ℕ) → FitsShare form share → length share ≤ SHARE_LIMIT
@@ -95,24 +94,16 @@ tested_bytes [] e i = omega arith
 tested_bytes (b ∷ bs) e zero = grind arith
 tested_bytes (b ∷ bs) e (suc i) = tested_bytes bs (grind arith) i
 
--- NEWKEYS and the request of the service fit packets
-newkeys_fits : FitsPacket (written_message NewKeys)
+-- NEWKEYS fits a packet
+pub newkeys_fits : FitsPacket (written_message NewKeys)
 unfolding written_message are_bytes
 newkeys_fits = record { some = omega arith; short = omega arith; bytes = tested_bytes (written_message NewKeys) refl }
 
-pub request_fits : FitsPacket (written_message (ServiceRequest userauth))
-unfolding written_message are_bytes
-request_fits = record { some = omega arith; short = omega arith; bytes = tested_bytes (written_message (ServiceRequest userauth)) refl }
-
-newkeys_kind : (message_number (written_message NewKeys) == 21) ≡ true
+pub newkeys_kind : (message_number (written_message NewKeys) == 21) ≡ true
 unfolding written_message
 newkeys_kind = refl
 
-request_kind : (message_number (written_message (ServiceRequest userauth)) == 21) ≡ false
-unfolding written_message
-request_kind = refl
-
-reply_kind : (form : ShareForm) (host_key share signature : List ℕ) → (message_number (written_message (reply_in form host_key share signature)) == 21) ≡ false
+pub reply_kind : (form : ShareForm) (host_key share signature : List ℕ) → (message_number (written_message (reply_in form host_key share signature)) == 21) ≡ false
 unfolding written_message
 reply_kind Mpint host_key share signature = refl
 reply_kind OctetString host_key share signature = refl
@@ -128,51 +119,44 @@ not_ongoing : (end : EndData) (f : Fault) → end ≡ Failed f → IsOngoing end
 not_ongoing end f e (inl on) = cc
 not_ongoing end f e (inr (a, on)) = cc
 
-module _ (m : SuiteData) (role : Side) (config : ConfigData) (old new : StateData) (before after : List ℕ) (message : MessageData) where
-  -- by what is hashed and what is replied
-  receives : (x : ExchangeData) (r : Reply) → exchange_of_message m role config old.known message ≡ x
-      → Gives m config.seed old.known.strict (keys_by m old.known.algorithms x role) old new before after r
-      → new.carried ≡ with_exchange config (keys_by m old.known.algorithms x (other role)) x.host_key old.carried
-      → StandsAt new phase.NewKeys old.guess (record old.known { session = exchange_hash m old.known.algorithms.kex x })
-      → ReceivesExchange m role config old new before after message r
-  receives x r e gives carries stands = record {
-    gives = subst (λ (y : ExchangeData). Gives m config.seed old.known.strict (keys_by m old.known.algorithms y role) old new before after r) (sym e) gives;
-    carries = λ _. subst (λ (y : ExchangeData). new.carried ≡ with_exchange config (keys_by m old.known.algorithms y (other role)) y.host_key old.carried) (sym e) carries;
-    stands = λ _. subst (λ (y : ExchangeData). StandsAt new phase.NewKeys old.guess (record old.known { session = exchange_hash m old.known.algorithms.kex y })) (sym e) stands;
-  }
-
+module _ (m : SuiteData) (role : Side) (config : ConfigData) (old new : StateData) (made : reply.Reply) (message : MessageData) where
   -- a failure, whatever is hashed
-  pub receives_failure : (f : Fault) (r : Reply) → r ≡ fails f
-      → ((strict : Bool) (next : KeysData) → Gives m config.seed strict next old new before after (fails f))
-      → ReceivesExchange m role config old new before after message r
-  receives_failure f r e gives =
-      let x : ExchangeData = exchange_of_message m role config old.known message in
-      let given : Gives m config.seed old.known.strict (keys_by m old.known.algorithms x role) old new before after (fails f) = gives old.known.strict (keys_by m old.known.algorithms x role) in
+  pub receives_failure : (f : Fault) (r : Reply) → r ≡ fails f → FailsBy old new f made → ReceivesExchange m role config old new made message r
+  receives_failure f r e failed =
+      let ends : new.end ≡ Failed f = ap (λ (x : Reply). x.end) failed.reply_is in
       record {
-        gives = subst (λ (s : Reply). Gives m config.seed old.known.strict (keys_by m old.known.algorithms x role) old new before after s) (sym e) given;
-        carries = λ on. absurd (not_ongoing new.end f given.ends on);
-        stands = λ on. absurd (not_ongoing new.end f given.ends on);
+        reply_is = failed.reply_is ∙ sym e;
+        switches = subst (λ (o : Option switch.Switch). SwitchesTo o old.known.strict (keys_by m old.known.algorithms (exchange_of_message m role config old.known message) role) new) (sym failed.no_switch) tt;
+        unsent = failed.unsent;
+        carries = λ on. absurd (not_ongoing new.end f ends on);
+        stands = λ on. absurd (not_ongoing new.end f ends on);
       }
 
-  -- where it goes on it stands after the exchange, with these answers sent
-  receives_on : (x : ExchangeData) (hash : List ℕ) (o : Sending) (answers : Units) → exchange_of_message m role config old.known message ≡ x
-      → hash ≡ exchange_hash m old.known.algorithms.kex x → old.end ≡ Open → StandsAfter m role config old new x.host_key x.shared hash o
-      → after ≡ before ++ sent_from m config.seed old.known.strict (keys_by m old.known.algorithms x role) old.sending answers
-      → o ≡ sending_from m old.known.strict (keys_by m old.known.algorithms x role) old.sending answers → AllFit answers
-      → ReceivesExchange m role config old new before after message (goes answers)
-  receives_on x hash o answers e is ongoing stands output sends fits =
-      let keys : kex_keys m old.known.algorithms x.shared hash (other role) ≡ keys_by m old.known.algorithms x (other role) =
-      ap (λ (h : List ℕ). kex_keys m old.known.algorithms x.shared h (other role)) is ∙ keys_of_exchange m old.known.algorithms x (other role) in
-      receives x (goes answers) e (record {
-        ends = ap (λ (k : StateData). k.end) stands.kept ∙ ongoing;
-        output = output;
-        sends = ap (λ (k : StateData). k.sending) stands.kept ∙ sends;
-        fits = fits;
-      }) (ap (λ (k : StateData). k.carried) stands.kept ∙ ap (λ (k : KeysData). with_exchange config k x.host_key old.carried) keys) (record {
-        phase_is = ap (λ (k : StateData). k.phase) stands.kept;
-        guess_is = ap (λ (k : StateData). k.guess) stands.kept;
-        known_is = ap (λ (k : StateData). k.known) stands.kept ∙ ap (λ (h : List ℕ). record old.known { session = h }) is;
-      })
+  -- where it goes on it stands after the exchange, with these answers, NEWKEYS and what follows it
+  receives_on : (x : ExchangeData) (hash : List ℕ) (answers more : Units) → exchange_of_message m role config old.known message ≡ x
+      → hash ≡ exchange_hash m old.known.algorithms.kex x → old.end ≡ Open → old.sending.keys ≡ None → StandsAfter m role config old new x.host_key x.shared hash
+      → made ≡ switching m role old x.shared hash answers more
+      → ReceivesExchange m role config old new made message (goes (answers ++ (written_message NewKeys ∷ more)))
+  receives_on x hash answers more e is ongoing clear stands made_is =
+      let keys : (side : Side) → kex_keys m old.known.algorithms x.shared hash side ≡ keys_by m old.known.algorithms x side = λ side.
+      ap (λ (h : List ℕ). kex_keys m old.known.algorithms x.shared h side) is ∙ keys_of_exchange m old.known.algorithms x side in
+      record {
+        reply_is = ap (λ (k : reply.Reply). replied (answers_of k) new.end) made_is
+            ∙ ap (λ (end : EndData). replied (answers ++ (written_message NewKeys ∷ more)) end) (ap (λ (k : StateData). k.end) stands.kept ∙ ongoing);
+        switches = subst (λ (k : reply.Reply). SwitchesTo k.switch old.known.strict (keys_by m old.known.algorithms (exchange_of_message m role config old.known message) role) new) (sym made_is) (
+          keys role ∙ ap (λ (y : ExchangeData). keys_by m old.known.algorithms y role) (sym e),
+          ap (λ (k : StateData). k.known.strict) stands.kept,
+          ap (λ (k : StateData). k.sending.keys) stands.kept ∙ clear,
+        );
+        unsent = ap (λ (k : StateData). k.sending) stands.kept;
+        carries = λ _. subst (λ (y : ExchangeData). new.carried ≡ with_exchange config (keys_by m old.known.algorithms y (other role)) y.host_key old.carried) (sym e)
+            (ap (λ (k : StateData). k.carried) stands.kept ∙ ap (λ (k : KeysData). with_exchange config k x.host_key old.carried) (keys (other role)));
+        stands = λ _. subst (λ (y : ExchangeData). StandsAt new phase.NewKeys old.guess (record old.known { session = exchange_hash m old.known.algorithms.kex y })) (sym e) (record {
+          phase_is = ap (λ (k : StateData). k.phase) stands.kept;
+          guess_is = ap (λ (k : StateData). k.guess) stands.kept;
+          known_is = ap (λ (k : StateData). k.known) stands.kept ∙ ap (λ (h : List ℕ). record old.known { session = h }) is;
+        });
+      }
 
 -- What a server asks at this share: nothing where the suite holds its key, or gives no shared secret; else the signature of what is hashed.
 module _ (m : SuiteData) (config : ConfigData) (known : Known) (message : MessageData) (share : List ℕ) (read : share_read (Ok message) ≡ share) where
@@ -245,14 +229,13 @@ module _ (m : SuiteData) (config : ConfigData) (known : Known) (message : Messag
   settled_asked d answer hash given off is = rw (is, exchange_of_share answer given, read, given, off) refl
 
 -- The exchange hash of a server that has answered so, its host key, and the message with its signature.
-pub record IsSigned (m : SuiteData) (role : Side) (config : ConfigData) (known : Known) (share : List ℕ) (answer : ResponseData) (signature hash host_key reply : List ℕ) : Type 0 where
+pub record IsSigned (m : SuiteData) (role : Side) (config : ConfigData) (known : Known) (share : List ℕ) (answer : ResponseData) (signature hash host_key payload : List ℕ) : Type 0 where
   pub hash_is : hash ≡ exchange_hash m known.algorithms.kex (exchanged role config known (server_shares m config known share answer))
   pub host_key_is : host_key ≡ (server_shares m config known share answer).host_key
-  pub reply_is : reply ≡ written_message (reply_in (m.share_form known.algorithms.kex) (server_shares m config known share answer).host_key answer.share signature)
-  pub fits : FitsPacket reply
+  pub payload_is : payload ≡ written_message (reply_in (m.share_form known.algorithms.kex) (server_shares m config known share answer).host_key answer.share signature)
 
 -- A server, that receives this share.
-module _ (m : SuiteData) (config : ConfigData) (old new : StateData) (before after : List ℕ) (message : MessageData) (share : List ℕ) (read : share_read (Ok message) ≡ share) where
+module _ (m : SuiteData) (config : ConfigData) (old new : StateData) (made : reply.Reply) (message : MessageData) (share : List ℕ) (read : share_read (Ok message) ≡ share) where
   -- what it hashes, once it has answered
   hashed_server : (answer : ResponseData) → m.respond old.known.algorithms.kex config.random share ≡ Some answer
       → exchange_of_message m Server config old.known message ≡ exchanged Server config old.known (server_shares m config old.known share answer)
@@ -260,59 +243,36 @@ module _ (m : SuiteData) (config : ConfigData) (old new : StateData) (before aft
   hashed_server answer given = rw (read, given) refl
 
   -- without a signature it fails
-  pub init_unsigned : ((strict : Bool) (next : KeysData) → Gives m config.seed strict next old new before after (fails fault.Exchange))
-      → ReceivesExchange m Server config old new before after message (signed_reply config old.known (exchange_of_message m Server config old.known message) None)
-  init_unsigned gives = receives_failure m Server config old new before after message fault.Exchange (fails fault.Exchange) refl gives
+  pub init_unsigned : FailsBy old new fault.Exchange made
+      → ReceivesExchange m Server config old new made message (signed_reply config old.known (exchange_of_message m Server config old.known message) None)
+  init_unsigned failed = receives_failure m Server config old new made message fault.Exchange (fails fault.Exchange) refl failed
 
   -- else it answers
-  answers_as_server : (answer : ResponseData) (hash host_key reply signature : List ℕ) → m.respond old.known.algorithms.kex config.random share ≡ Some answer
+  answers_as_server : (answer : ResponseData) (hash host_key payload signature : List ℕ) → m.respond old.known.algorithms.kex config.random share ≡ Some answer
       → old.end ≡ Open → old.phase ≡ phase.Exchange → HasForm m old
-      → IsSigned m Server config old.known share answer signature hash host_key reply → AnswersInit m Server config old new host_key answer.shared hash reply before after
-      → ReceivesExchange m Server config old new before after message (signed_reply config old.known (exchange_of_message m Server config old.known message) (Some signature))
-  answers_as_server answer hash host_key reply signature given ongoing at form signed sent =
-      let a : AlgorithmsData = old.known.algorithms in
+      → IsSigned m Server config old.known share answer signature hash host_key payload → AnswersInit m Server config old new host_key answer.shared hash payload made
+      → ReceivesExchange m Server config old new made message (signed_reply config old.known (exchange_of_message m Server config old.known message) (Some signature))
+  answers_as_server answer hash host_key payload signature given ongoing at form signed sent =
       let x : ExchangeData = exchanged Server config old.known (server_shares m config old.known share answer) in
-      let next : KeysData = keys_by m a x Server in
-      let keys : kex_keys m a answer.shared hash Server ≡ next = ap (λ (h : List ℕ). kex_keys m a answer.shared h Server) signed.hash_is ∙ keys_of_exchange m a x Server in
-      let same : reply ≡ written_message (reply_in old.known.shares x.host_key answer.share signature) =
-      signed.reply_is ∙ ap (λ (f : ShareForm). written_message (reply_in f x.host_key answer.share signature)) (sym (form.form (ap past_kexinit at))) in
       let told : Units = told_by config old.known in
-      let answers : Units = reply ∷ written_message NewKeys ∷ [] in
-      let is : signed_reply config old.known (exchange_of_message m Server config old.known message) (Some signature) ≡ goes (reply ∷ written_message NewKeys ∷ told) =
+      let same : payload ≡ written_message (reply_in old.known.shares x.host_key answer.share signature) =
+      signed.payload_is ∙ ap (λ (f : ShareForm). written_message (reply_in f x.host_key answer.share signature)) (sym (form.form (ap past_kexinit at))) in
+      let is : signed_reply config old.known (exchange_of_message m Server config old.known message) (Some signature) ≡ goes (payload ∷ written_message NewKeys ∷ told) =
       ap (λ (y : ExchangeData). signed_reply config old.known y (Some signature)) (hashed_server answer given) ∙ ap (λ (p : List ℕ). goes (p ∷ written_message NewKeys ∷ told)) (sym same) in
-      let quiet : (message_number reply == 21) ≡ false =
-      ap (λ (p : List ℕ). message_number p == 21) signed.reply_is ∙ reply_kind (m.share_form a.kex) x.host_key answer.share signature in
-      let two = sent_two m config.seed old.known.strict next old.sending reply (written_message NewKeys) quiet newkeys_kind (form.clear (ap past_exchange at)) in
-      let all = sent_then m config.seed old.known.strict next old.sending answers told in
-      let own : KeysData = kex_keys m a answer.shared hash Server in
-      let switched : KeysData → Sending = λ k. with_newkeys old.known.strict k (with_packet m reply old.sending) in
-      let o : Sending = sending_from m old.known.strict own (switched own) told in
-      let first : List ℕ = spelled_by m old.sending.keys config.seed old.sending.number reply in
-      let second : List ℕ = spelled_by m (with_packet m reply old.sending).keys config.seed (with_packet m reply old.sending).number (written_message NewKeys) in
-      let third : Sending → List ℕ = λ p. sent_from m config.seed old.known.strict next p told in
-      subst (λ (r : Reply). ReceivesExchange m Server config old new before after message r) (sym is)
-      (receives_on m Server config old new before after message x hash o (reply ∷ written_message NewKeys ∷ told) (hashed_server answer given) signed.hash_is ongoing
-      (subst (λ (h : List ℕ). StandsAfter m Server config old new h answer.shared hash o) signed.host_key_is sent.stands)
-      (subst (λ (k : KeysData). after ≡ ((before ++ first) ++ second) ++ sent_from m config.seed old.known.strict k (switched k) told) keys sent.output
-      ∙ ap (λ (l : List ℕ). l ++ third (switched next)) (append_assoc before first second)
-      ∙ append_assoc before (first ++ second) (third (switched next))
-      ∙ ap (λ (l : List ℕ). before ++ (l ++ third (switched next))) (sym two.0)
-      ∙ ap (λ (p : Sending). before ++ (sent_from m config.seed old.known.strict next old.sending answers ++ third p)) (sym two.1)
-      ∙ ap (λ (l : List ℕ). before ++ l) (sym all.0))
-      (ap (λ (k : KeysData). sending_from m old.known.strict k (switched k) told) keys
-      ∙ ap (λ (p : Sending). sending_from m old.known.strict next p told) (sym two.1) ∙ sym all.1)
-      (fit_both answers told (signed.fits, (newkeys_fits, tt)) sent.fits))
+      subst (λ (r : Reply). ReceivesExchange m Server config old new made message r) (sym is)
+      (receives_on m Server config old new made message x hash (payload ∷ []) told (hashed_server answer given) signed.hash_is ongoing (form.clear (ap past_exchange at))
+      (subst (λ (h : List ℕ). StandsAfter m Server config old new h answer.shared hash) signed.host_key_is sent.stands) sent.made_is)
 
-  pub init_answers : (role : Side) (answer : ResponseData) (hash host_key reply signature : List ℕ) → role ≡ Server
+  pub init_answers : (role : Side) (answer : ResponseData) (hash host_key payload signature : List ℕ) → role ≡ Server
       → m.respond old.known.algorithms.kex config.random share ≡ Some answer → old.end ≡ Open → old.phase ≡ phase.Exchange → HasForm m old
-      → IsSigned m role config old.known share answer signature hash host_key reply → AnswersInit m role config old new host_key answer.shared hash reply before after
-      → ReceivesExchange m Server config old new before after message (signed_reply config old.known (exchange_of_message m Server config old.known message) (Some signature))
-  init_answers role answer hash host_key reply signature is given ongoing at form signed sent =
-      answers_as_server answer hash host_key reply signature given ongoing at form (subst (λ (r : Side). IsSigned m r config old.known share answer signature hash host_key reply) is signed)
-      (subst (λ (r : Side). AnswersInit m r config old new host_key answer.shared hash reply before after) is sent)
+      → IsSigned m role config old.known share answer signature hash host_key payload → AnswersInit m role config old new host_key answer.shared hash payload made
+      → ReceivesExchange m Server config old new made message (signed_reply config old.known (exchange_of_message m Server config old.known message) (Some signature))
+  init_answers role answer hash host_key payload signature is given ongoing at form signed sent =
+      answers_as_server answer hash host_key payload signature given ongoing at form (subst (λ (r : Side). IsSigned m r config old.known share answer signature hash host_key payload) is signed)
+      (subst (λ (r : Side). AnswersInit m r config old new host_key answer.shared hash payload made) is sent)
 
 -- A client, that receives this host key and share.
-module _ (m : SuiteData) (d : DecisionsData) (config : ConfigData) (old new : StateData) (before after : List ℕ) (message : MessageData) (host_key share signature : List ℕ)
+module _ (m : SuiteData) (d : DecisionsData) (config : ConfigData) (old new : StateData) (made : reply.Reply) (message : MessageData) (host_key share signature : List ℕ)
     (read : share_read (Ok message) ≡ share) (told : host_key_read (Ok message) ≡ host_key) where
   -- what it hashes, once it has made the shared secret
   hashed_client : (shared : List ℕ) → m.shared old.known.algorithms.kex config.random share ≡ Some shared
@@ -328,54 +288,42 @@ module _ (m : SuiteData) (d : DecisionsData) (config : ConfigData) (old new : St
   reply_is shared trusts given = rw (hashed_client shared given, trusts, read, given) refl
 
   -- it fails where it doesn't trust the host key
-  pub reply_distrusts : d.host_key old.known.algorithms.host_key host_key ≡ false
-      → ((strict : Bool) (next : KeysData) → Gives m config.seed strict next old new before after (fails fault.HostKey))
-      → ReceivesExchange m Client config old new before after message (settled d (reply_step m Client config old.known message signature))
+  pub reply_distrusts : d.host_key old.known.algorithms.host_key host_key ≡ false → FailsBy old new fault.HostKey made
+      → ReceivesExchange m Client config old new made message (settled d (reply_step m Client config old.known message signature))
   unfolding reply_step exchange_with exchange_by
-  reply_distrusts off gives =
-      receives_failure m Client config old new before after message fault.HostKey (settled d (reply_step m Client config old.known message signature)) (rw (told, off) refl) gives
+  reply_distrusts off failed =
+      receives_failure m Client config old new made message fault.HostKey (settled d (reply_step m Client config old.known message signature)) (rw (told, off) refl) failed
 
   -- and where there is no shared secret
-  pub reply_fails : d.host_key old.known.algorithms.host_key host_key ≡ true → m.shared old.known.algorithms.kex config.random share ≡ None
-      → ((strict : Bool) (next : KeysData) → Gives m config.seed strict next old new before after (fails fault.Exchange))
-      → ReceivesExchange m Client config old new before after message (settled d (reply_step m Client config old.known message signature))
+  pub reply_fails : d.host_key old.known.algorithms.host_key host_key ≡ true → m.shared old.known.algorithms.kex config.random share ≡ None → FailsBy old new fault.Exchange made
+      → ReceivesExchange m Client config old new made message (settled d (reply_step m Client config old.known message signature))
   unfolding reply_step exchange_with exchange_by
-  reply_fails trusts none gives =
-      receives_failure m Client config old new before after message fault.Exchange (settled d (reply_step m Client config old.known message signature)) (rw (told, trusts, read, none) refl) gives
+  reply_fails trusts none failed =
+      receives_failure m Client config old new made message fault.Exchange (settled d (reply_step m Client config old.known message signature)) (rw (told, trusts, read, none) refl) failed
 
   -- else the signature decides
   judged_as_client : (shared : List ℕ) → d.host_key old.known.algorithms.host_key host_key ≡ true → m.shared old.known.algorithms.kex config.random share ≡ Some shared
       → old.end ≡ Open → old.phase ≡ phase.Exchange → HasForm m old
-      → JudgesReply m Client config old new (client_shares m config old.known host_key share shared) signature before after
-      → ReceivesExchange m Client config old new before after message (settled d (reply_step m Client config old.known message signature))
-  judged_as_client shared trusts given ongoing at form (Refuses off gives) =
-      receives_failure m Client config old new before after message fault.Signature (settled d (reply_step m Client config old.known message signature))
-      (reply_is shared trusts given ∙ rw off refl) gives
+      → JudgesReply m Client config old new (client_shares m config old.known host_key share shared) signature made
+      → ReceivesExchange m Client config old new made message (settled d (reply_step m Client config old.known message signature))
+  judged_as_client shared trusts given ongoing at form (Refuses off failed) =
+      receives_failure m Client config old new made message fault.Signature (settled d (reply_step m Client config old.known message signature))
+      (reply_is shared trusts given ∙ rw off refl) failed
   judged_as_client shared trusts given ongoing at form (Accepts on sent) =
-      let a : AlgorithmsData = old.known.algorithms in
       let x : ExchangeData = exchanged Client config old.known (client_shares m config old.known host_key share shared) in
-      let hash : List ℕ = exchange_hash m a.kex x in
-      let next : KeysData = keys_by m a x Client in
-      let keys : kex_keys m a shared hash Client ≡ next = keys_of_exchange m a x Client in
       let request : List ℕ = written_message (ServiceRequest userauth) in
-      let o : Sending = with_newkeys old.known.strict (kex_keys m a shared hash Client) old.sending in
       let is : settled d (reply_step m Client config old.known message signature) ≡ goes (written_message NewKeys ∷ request ∷ []) = reply_is shared trusts given ∙ rw on refl in
-      let two = sent_switch m config.seed old.known.strict next old.sending (written_message NewKeys) request newkeys_kind request_kind (form.clear (ap past_exchange at)) in
-      subst (λ (r : Reply). ReceivesExchange m Client config old new before after message r) (sym is)
-      (receives_on m Client config old new before after message x hash (with_packet m request o) (written_message NewKeys ∷ request ∷ []) (hashed_client shared given) refl ongoing sent.stands
-      (sent.output ∙ append_assoc before (spelled_by m old.sending.keys config.seed old.sending.number (written_message NewKeys)) (spelled_by m o.keys config.seed o.number request)
-      ∙ ap (λ (l : List ℕ). before ++ l) (sym two.0))
-      (ap (λ (k : KeysData). with_packet m request (with_newkeys old.known.strict k old.sending)) keys ∙ sym two.1)
-      (newkeys_fits, (request_fits, tt)))
+      subst (λ (r : Reply). ReceivesExchange m Client config old new made message r) (sym is)
+      (receives_on m Client config old new made message x (exchange_hash m old.known.algorithms.kex x) [] (request ∷ []) (hashed_client shared given) refl ongoing (form.clear (ap past_exchange at)) sent.stands sent.made_is)
 
   pub reply_judged : (role : Side) (shared body : List ℕ) → role ≡ Client → shared ≡ body → d.host_key old.known.algorithms.host_key host_key ≡ true
       → m.shared old.known.algorithms.kex config.random share ≡ Some body → old.end ≡ Open → old.phase ≡ phase.Exchange → HasForm m old
-      → JudgesReply m role config old new (client_shares m config old.known host_key share shared) signature before after
-      → ReceivesExchange m Client config old new before after message (settled d (reply_step m Client config old.known message signature))
+      → JudgesReply m role config old new (client_shares m config old.known host_key share shared) signature made
+      → ReceivesExchange m Client config old new made message (settled d (reply_step m Client config old.known message signature))
   reply_judged role shared body is same trusts given ongoing at form judged =
       judged_as_client body trusts given ongoing at form
-      (subst (λ (l : List ℕ). JudgesReply m Client config old new (client_shares m config old.known host_key share l) signature before after) same
-      (subst (λ (r : Side). JudgesReply m r config old new (client_shares m config old.known host_key share shared) signature before after) is judged))
+      (subst (λ (l : List ℕ). JudgesReply m Client config old new (client_shares m config old.known host_key share l) signature made) same
+      (subst (λ (r : Side). JudgesReply m r config old new (client_shares m config old.known host_key share shared) signature made) is judged))
 
 -- what was prepared, and that nothing was
 pub prepared_is : (m : SuiteData) (role : Side) (config : ConfigData) (known : Known) (share : List ℕ) (o : Option Prepared) (p : Prepared) → o ≡ Some p → IsPreparedBy m role config known share o → IsPrepared m role config known share p

@@ -1,7 +1,6 @@
 -- What is sent for the answers of a reply: none, one, and some after others.
 
-use Rattle.std.proofs.Common.{◌≡◌, ℕ, ◌==◌, Bool, false, List, [], ◌∷◌, ◌++◌, refl, sym, ap, subst, ◌∙◌, append_assoc, OnOk, Result, Ok, Err}
-use Rattle.std.proofs.lemmas.List.{append-nil}
+use Rattle.std.proofs.Common.{◌≡◌, ℕ, ◌==◌, Bool, false, List, [], ◌∷◌, ◌++◌, refl, sym, ap, subst, ◌∙◌, append_assoc}
 use Rattle.sshmsg.specs.Numbers.{message_number}
 use Rattle.sshpacket.specs.KeysData.{KeysData}
 use Rattle.sshpacket.specs.Stream.{Units}
@@ -9,31 +8,18 @@ use Rattle.sshpacket.specs.Suite.{SuiteData}
 use Rattle.sshcore.specs.Brings.{Gives}
 use Rattle.sshcore.specs.Directions.{spelled_by}
 use Rattle.sshcore.specs.EndData.{EndData, Reply}
-use Rattle.sshcore.specs.History.{FitsPacket}
 use Rattle.sshcore.specs.StateData.{StateData}
-use Rattle.sshcore.specs.MadePayloads.{IsMade}
-use Rattle.sshcore.specs.Output.{Sending, after_sending, sending_from, sent_from, with_packet}
+use Rattle.sshcore.specs.Output.{Sending, after_sending, sending_from, sent_from}
 use Rattle.sshcore.specs.EndpointParts.{ConfigData}
 use Rattle.sshcore.specs.Work.{init_for}
 use Rattle.sshcore.proofs.HistoryLemmas.{fit_both}
 use Rattle.sshcore.proofs.KeyedLemmas.{init_kind}
-use Rattle.sshcore.proofs.OutputLemmas.{sent_one}
-
--- what two clauses on a success imply
-pub on_both : {T E P Q R : Type 0} (r : Result T E) → OnOk r P → OnOk r Q → (P → Q → R) → OnOk r R
-on_both (Ok x) p q f = f p q
-on_both (Err e) p q f = tt
 
 -- a client's share is no NEWKEYS
 pub quiet_init : (m : SuiteData) (config : ConfigData) (kex : List ℕ) → (message_number (init_for m config kex) == 21) ≡ false
 quiet_init m config kex = ap (λ (n : ℕ). n == 21) (init_kind (m.share_form kex) (m.share kex config.random))
 
 module _ (m : SuiteData) (seed : List ℕ) (strict : Bool) (next : KeysData) where
-  -- nothing is sent, and no packet is counted
-  sent_none : (o : Sending) → (sent_from m seed strict next o [] ≡ []) × (sending_from m strict next o [] ≡ o)
-  unfolding sent_from sending_from
-  sent_none o = (refl, refl)
-
   -- what is sent after others goes on from them
   pub sent_then : (o : Sending) (xs ys : Units)
       → (sent_from m seed strict next o (xs ++ ys) ≡ sent_from m seed strict next o xs ++ sent_from m seed strict next (sending_from m strict next o xs) ys)
@@ -47,29 +33,6 @@ module _ (m : SuiteData) (seed : List ℕ) (strict : Bool) (next : KeysData) whe
             (sent_from m seed strict next (sending_from m strict next (after_sending m strict next o x) xs) ys)),
         rest.1,
       )
-
-  -- no answer
-  pub gives_nothing : (old new : StateData) (before after : List ℕ) (end : EndData) → new.end ≡ end → after ≡ before → new.sending ≡ old.sending
-      → Gives m seed strict next old new before after (record { answers = []; end = end })
-  gives_nothing old new before after end ends output sends = record {
-    ends = ends;
-    output = output ∙ sym (append-nil before) ∙ ap (λ (l : List ℕ). before ++ l) (sym (sent_none old.sending).0);
-    sends = sends ∙ sym (sent_none old.sending).1;
-    fits = tt;
-  }
-
-  -- one answer that was made and sent, which is no NEWKEYS
-  pub gives_one : (old new : StateData) (before after payload made bytes : List ℕ) (end : EndData) → (message_number payload == 21) ≡ false → IsMade payload made → bytes ≡ made → old.end ≡ end
-      → after ≡ before ++ spelled_by m old.sending.keys seed old.sending.number bytes → new ≡ record old { sending = with_packet m bytes old.sending }
-      → Gives m seed strict next old new before after (record { answers = payload ∷ []; end = end })
-  gives_one old new before after payload made bytes end quiet is same ends output keeps =
-      let one = sent_one m seed strict next old.sending payload quiet in
-      record {
-        ends = ap (λ (k : StateData). k.end) keeps ∙ ends;
-        output = output ∙ ap (λ (l : List ℕ). before ++ spelled_by m old.sending.keys seed old.sending.number l) (same ∙ is.same) ∙ ap (λ (l : List ℕ). before ++ l) (sym one.0);
-        sends = ap (λ (k : StateData). k.sending) keeps ∙ ap (λ (l : List ℕ). with_packet m l old.sending) (same ∙ is.same) ∙ sym one.1;
-        fits = (subst FitsPacket is.same is.fits, tt);
-      }
 
   -- some answers after others
   pub gives_then : (old mid new : StateData) (before between after : List ℕ) (xs ys : Units) (middle end : EndData)
@@ -97,11 +60,6 @@ module _ (m : SuiteData) (seed : List ℕ) (strict : Bool) (next : KeysData) whe
     sends = g.sends;
     fits = g.fits;
   }
-
-  -- the same answers, otherwise spelled
-  pub gives_as : (old new : StateData) (before after : List ℕ) (xs ys : Units) (end : EndData) → xs ≡ ys
-      → Gives m seed strict next old new before after (record { answers = xs; end = end }) → Gives m seed strict next old new before after (record { answers = ys; end = end })
-  gives_as old new before after xs ys end e g = subst (λ (l : Units). Gives m seed strict next old new before after (record { answers = l; end = end })) e g
 
   -- the same reply, otherwise spelled
   pub gives_by : (old new : StateData) (before after : List ℕ) (r other : Reply) → r ≡ other → Gives m seed strict next old new before after r → Gives m seed strict next old new before after other

@@ -32,6 +32,7 @@ pub mod SendingLemmas
 pub mod OutputLemmas
 pub mod PairLemmas
 pub mod GivesLemmas
+pub mod MadeLemmas
 pub mod KexInitLemmas
 pub mod ConfigLemmas
 pub mod ConfigJudged
@@ -55,6 +56,7 @@ pub mod PendingLemmas
 pub mod JudgingLemmas
 pub mod AnsweringLemmas
 pub mod AttemptLemmas
+pub mod ReplyLemmas
 pub mod BeginLemmas
 pub mod CallLemmas
 pub mod LineLemmas

@@ -48,28 +48,6 @@ module _ (m : SuiteData) (seed : List ℕ) (strict : Bool) (next : KeysData) (o 
   unfolding sent_from sending_from
   sent_one a none = (append-nil (spelled_by m o.keys seed o.number a), after_quiet m strict next o a none)
 
-  -- one before the first NEWKEYS
-  pub sent_two : (a b : List ℕ) → (message_number a == 21) ≡ false → (message_number b == 21) ≡ true → o.keys ≡ None
-      → (sent_from m seed strict next o (a ∷ b ∷ []) ≡ spelled_by m o.keys seed o.number a ++ spelled_by m (with_packet m a o).keys seed (with_packet m a o).number b)
-      × (sending_from m strict next o (a ∷ b ∷ []) ≡ with_newkeys strict next (with_packet m a o))
-  unfolding sent_from sending_from
-  sent_two a b none on clear = (
-    ap (λ (p : Sending). spelled_by m o.keys seed o.number a ++ (spelled_by m p.keys seed p.number b ++ [])) (after_quiet m strict next o a none)
-        ∙ ap (λ (l : List ℕ). spelled_by m o.keys seed o.number a ++ l) (append-nil (spelled_by m (with_packet m a o).keys seed (with_packet m a o).number b)),
-    ap (λ (p : Sending). after_sending m strict next p b) (after_quiet m strict next o a none) ∙ after_switch m strict next (with_packet m a o) b (ap (λ (k : Option KeysData). keys_after m k a) clear) on,
-  )
-
-  -- the first NEWKEYS, and one after it
-  pub sent_switch : (a b : List ℕ) → (message_number a == 21) ≡ true → (message_number b == 21) ≡ false → o.keys ≡ None
-      → (sent_from m seed strict next o (a ∷ b ∷ []) ≡ spelled_by m o.keys seed o.number a ++ spelled_by m (with_newkeys strict next o).keys seed (with_newkeys strict next o).number b)
-      × (sending_from m strict next o (a ∷ b ∷ []) ≡ with_packet m b (with_newkeys strict next o))
-  unfolding sent_from sending_from
-  sent_switch a b on none clear = (
-    ap (λ (p : Sending). spelled_by m o.keys seed o.number a ++ (spelled_by m p.keys seed p.number b ++ [])) (after_switch m strict next o a clear on)
-        ∙ ap (λ (l : List ℕ). spelled_by m o.keys seed o.number a ++ l) (append-nil (spelled_by m (with_newkeys strict next o).keys seed (with_newkeys strict next o).number b)),
-    ap (λ (p : Sending). after_sending m strict next p b) (after_switch m strict next o a clear on) ∙ after_quiet m strict next (with_newkeys strict next o) b none,
-  )
-
 -- what was sent since the key switch, with one payload more
 later_on : (sent : Units) (a : List ℕ) → switched_out sent ≡ true → after_first is_newkeys [] (sent ++ a ∷ []) ≡ after_first is_newkeys [] sent ++ a ∷ []
 unfolding switched_out

@@ -266,13 +266,8 @@ untried c method = refl
 
 -- what is kept after a request, as the endpoint goes on
 module _ (old new : StateData) where
-  pub with_end : (known : Known) → new ≡ record old { known = known; sending = new.sending } → new ≡ record old { end = new.end; known = known; sending = new.sending }
-  with_end known e = e ∙ ap (λ (x : EndData). record old { end = x; known = known; sending = new.sending }) (sym (ap (λ (k : StateData). k.end) e))
-
-  -- and with what is carried along
-  pub with_key : (known : Known) (carried : Carried) → old.carried ≡ carried → new ≡ record old { known = known; sending = new.sending }
-      → new ≡ record old { end = new.end; known = known; carried = carried; sending = new.sending }
-  with_key known carried same e = with_end known e ∙ ap (λ (x : Carried). record old { end = new.end; known = known; carried = x; sending = new.sending }) same
+  pub with_end : (known : Known) → new ≡ record old { known = known } → new ≡ record old { end = new.end; known = known }
+  with_end known e = e ∙ ap (λ (x : EndData). record old { end = x; known = known }) (sym (ap (λ (k : StateData). k.end) e))
 
 -- a key that is kept of a signed request
 pub key_kept : (config : ConfigData) (known : Known) (algorithm key signature : List ℕ) (c : Claim) → claim_method c ≡ PublicKey algorithm key [] → HasName (claim_method c) → KeepsMethod config known (PublicKey algorithm key signature) c

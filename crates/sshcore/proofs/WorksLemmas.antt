@@ -1,7 +1,6 @@
 -- What each message that has a place brings.
 
-use Rattle.std.proofs.Common.{◌≡◌, ◌≢◌, inl, inr, ℕ, ◌+◌, ◌≤◌, Bool, true, false, List, [], length, Bor, Box, Global, Some, Result, Ok, Err, OnOk, refl, sym, ap, ◌∙◌, subst, arith}
-use Rattle.std.proofs.lemmas.List.{append-nil}
+use Rattle.std.proofs.Common.{◌≡◌, ◌≢◌, inl, inr, ℕ, ◌+◌, ◌≤◌, Bool, true, false, List, [], length, Bor, Box, Global, None, Some, Result, Ok, Err, IfOk, OnOk, refl, sym, ap, ◌∙◌, subst, arith}
 use Rattle.sshwire.specs.declared.mpint.Mpint as mpint
 use Rattle.sshwire.specs.declared.share_form.ShareForm.{ShareForm}
 use Rattle.sshwire.specs.declared.share_form.ShareForm.TheVariants.{Mpint}
@@ -17,8 +16,7 @@ use Rattle.sshmsg.specs.View.{message_data}
 use Rattle.sshneg.specs.declared.side.Side.{Side}
 use Rattle.sshneg.specs.declared.side.Side.TheVariants.{Client, Server}
 use Rattle.sshneg.specs.ExchangeEnd.{offer_by, offer_in}
-use Rattle.sshpacket.specs.KeysData.{KeysData}
-use Rattle.sshpacket.specs.Suite.{SuiteData}
+use Rattle.sshpacket.specs.Stream.{Units}
 use Rattle.sshpacket.specs.declared.limits.TheConstants.{PACKET_LIMIT}
 use Rattle.sshcore.specs.declared.end.Fault.{Fault}
 use Rattle.sshcore.specs.declared.phase_table.Disposition.TheVariants as disposition
@@ -27,12 +25,14 @@ use Rattle.sshcore.specs.declared.phase_table.Phase.TheVariants as phase
 use Rattle.sshcore.specs.Attempts.{failure_step, pk_ok_step, success_reply}
 use Rattle.sshcore.specs.Authenticating.{FitsMethod, confirmed_attempt, counted_request, failed_attempt, tried_key}
 use Rattle.sshcore.specs.Before.{wrong_guess}
-use Rattle.sshcore.specs.Brings.{Exchanges, Gives, IsOngoing, Leaves, Offers, StandsAt, Stays, Works, carried_after, received_counted, received_newkeys, received_one}
+use Rattle.sshcore.specs.declared.reply.Reply as reply
+use Rattle.sshcore.specs.Brings.{Exchanges, IsOngoing, Leaves, Offers, StandsAt, Stays, carried_after, received_counted, received_newkeys, received_one}
+use Rattle.sshcore.specs.Comes.{Comes, ComesPlainly}
 use Rattle.sshcore.specs.EndData.{Authenticated, Closed, EndData, Failed, Open, Reply, goes}
 use Rattle.sshcore.specs.Exchanged.{ReceivesExchange}
 use Rattle.sshcore.specs.StateData.{StateData}
 use Rattle.sshcore.specs.KnownBefore.{Known}
-use Rattle.sshcore.specs.Output.{sending_from, sent_from}
+use Rattle.sshcore.specs.ReplyView.{replied}
 use Rattle.sshcore.specs.EndpointParts.{Setup}
 use Rattle.sshcore.specs.Phases.{leaving, next_phase, past_exchange}
 use Rattle.sshcore.specs.Plan.{is_waiting, listed_by, listed_in}
@@ -51,13 +51,22 @@ pub on_two : {T E A B Z : Type 0} (r : Result T E) → OnOk r A → OnOk r B →
 on_two (Ok x) a b f = f a b
 on_two (Err e) a b f = tt
 
-pub on_three : {T E A B C Z : Type 0} (r : Result T E) → OnOk r A → OnOk r B → OnOk r C → (A → B → C → Z) → OnOk r Z
-on_three (Ok x) a b c f = f a b c
-on_three (Err e) a b c f = tt
+-- what is true of the value in two clauses
+pub if_two : {T E : Type 0} (r : Result T E) (P Q Z : T → Type 0) → IfOk r P → IfOk r Q → ((x : T) → P x → Q x → Z x) → IfOk r Z
+if_two (Ok x) P Q Z p q f = f x p q
+if_two (Err e) P Q Z p q f = tt
 
-pub on_four : {T E A B C D Z : Type 0} (r : Result T E) → OnOk r A → OnOk r B → OnOk r C → OnOk r D → (A → B → C → D → Z) → OnOk r Z
-on_four (Ok x) a b c d f = f a b c d
-on_four (Err e) a b c d f = tt
+pub if_three : {T E : Type 0} (r : Result T E) (P Q R Z : T → Type 0) → IfOk r P → IfOk r Q → IfOk r R → ((x : T) → P x → Q x → R x → Z x) → IfOk r Z
+if_three (Ok x) P Q R Z p q s f = f x p q s
+if_three (Err e) P Q R Z p q s f = tt
+
+pub if_four : {T E : Type 0} (r : Result T E) (P Q R S Z : T → Type 0) → IfOk r P → IfOk r Q → IfOk r R → IfOk r S → ((x : T) → P x → Q x → R x → S x → Z x) → IfOk r Z
+if_four (Ok x) P Q R S Z p q s t f = f x p q s t
+if_four (Err e) P Q R S Z p q s t f = tt
+
+pub if_five : {T E : Type 0} (r : Result T E) (P Q R S U Z : T → Type 0) → IfOk r P → IfOk r Q → IfOk r R → IfOk r S → IfOk r U → ((x : T) → P x → Q x → R x → S x → U x → Z x) → IfOk r Z
+if_five (Ok x) P Q R S U Z p q s t u f = f x p q s t u
+if_five (Err e) P Q R S U Z p q s t u f = tt
 
 -- a payload of this message is read
 pub record HasPlace (role : Side) (old : StateData) (payload : List ℕ) (c : MessageData) : Type 0 where
@@ -101,12 +110,6 @@ pub failed_ends : (end : EndData) (f : Fault) → end ≡ Failed f → IsOngoing
 failed_ends end f e (inl stays) = absurd cc
 failed_ends end f e (inr done) = let is : end ≡ Authenticated done.0 = done.1 in absurd cc
 
--- nothing is sent
-pub silent : (m : SuiteData) (seed : List ℕ) (strict : Bool) (next : KeysData) (old new : StateData) (before : List ℕ) (end : EndData) → new.end ≡ end → new.sending ≡ old.sending
-    → Gives m seed strict next old new before before (record { answers = []; end = end })
-unfolding sent_from sending_from
-silent m seed strict next old new before end e s = record { ends = e; output = sym (append-nil before); sends = s; fits = tt }
-
 module _ (role : Side) (old : StateData) (payload : List ℕ) (c : MessageData) (has : HasPlace role old payload c) where
   -- where it is read
   at_number : (n : ℕ) → number_of c ≡ n → Reads role old.phase old.guess n
@@ -142,68 +145,41 @@ module _ (role : Side) (old : StateData) (payload : List ℕ) (c : MessageData) 
   pub at_success : number_of c ≡ 52 → IsAt role Client old.phase phase.Auth old.guess
   at_success is = table.success_read role old.phase old.guess (at_number 52 is)
 
-module _ (setup : Setup) (old new : StateData) (payload before after : List ℕ) (c : MessageData) (has : HasPlace setup.role old payload c) where
+module _ (setup : Setup) (old new : StateData) (payload : List ℕ) (answers : Units) (c : MessageData) (has : HasPlace setup.role old payload c) where
   -- a message that is worked on so
-  by_reply : (r : Reply) → work setup old.known c ≡ r → Works setup old new payload before after r → Works setup old new payload before after (work setup old.known c)
-  by_reply r is w = subst (λ (x : Reply). Works setup old new payload before after x) (sym is) w
+  by_reply : (r : Reply) → work setup old.known c ≡ r → ComesPlainly setup old new payload answers r → ComesPlainly setup old new payload answers (work setup old.known c)
+  by_reply r is w = subst (λ (x : Reply). ComesPlainly setup old new payload answers x) (sym is) w
 
   pub kexinit_works : (peer : KexInitData) → c ≡ KexInit peer
-      → ((strict : Bool) (next : KeysData) → Gives setup.suite setup.config.seed strict next old new before after (kexinit_reply setup.suite setup.role setup.config old.known peer))
+      → replied answers new.end ≡ kexinit_reply setup.suite setup.role setup.config old.known peer → new.sending ≡ old.sending
       → (IsOngoing new.end → new.known.shares ≡ setup.suite.share_form new.known.algorithms.kex)
       → new.carried ≡ old.carried
       → (IsOngoing new.end → StandsAt new phase.Exchange (wrong_guess setup.role setup.config.offer (Some peer)) (after_offer setup.suite setup.role setup.config old.known payload peer))
-      → Works setup old new payload before after (work setup old.known c)
+      → ComesPlainly setup old new payload answers (work setup old.known c)
   unfolding step
-  kexinit_works peer is gives form keys moves =
+  kexinit_works peer is gives unsent form keys moves =
       let at = at_kexinit setup.role old payload c has (ap number_of is) in
       by_reply (kexinit_reply setup.suite setup.role setup.config old.known peer) (ap (work setup old.known) is) (record {
-        gives = gives _ _;
+        reply_is = gives;
+        switches = tt;
+        unsent = unsent;
         moves = λ goes_on. Offers peer at.phase_is at.none_due (has.offers peer is) keys (form goes_on) (moves goes_on);
       })
-
-  -- the exchange message, at the side that receives it
-  exchange_works : (side : Side) (n : ℕ) (r : Reply) → number_of c ≡ n → leaving side phase.Exchange ≡ n → IsAt setup.role side old.phase phase.Exchange old.guess
-      → ReceivesExchange setup.suite side setup.config old new before after c r → Works setup old new payload before after r
-  exchange_works side n r number leaves at h =
-      let same : setup.role ≡ side = at.side_is in
-      let read = has.read_is in
-      let none : old.guess ≡ false = at.none_due in
-      record {
-        gives = rw (same, read) h.gives;
-        moves = λ goes_on. Exchanges at.phase_is none
-            (has.kind_is ∙ (number ∙ sym leaves ∙ ap (λ (x : Side). leaving x phase.Exchange) (sym same)))
-            (rw (same, read) (h.carries goes_on))
-            (rw (same, read, ← none) (h.stands goes_on));
-      }
-
-  pub init_works : number_of c ≡ 30 → work setup old.known c ≡ settled setup.decisions (init_step setup.suite setup.role setup.config old.known c)
-      → ReceivesExchange setup.suite Server setup.config old new before after c (settled setup.decisions (init_step setup.suite Server setup.config old.known c))
-      → Works setup old new payload before after (work setup old.known c)
-  init_works number is h =
-      let at = at_init setup.role old payload c has number in
-      by_reply (settled setup.decisions (init_step setup.suite Server setup.config old.known c)) (is ∙ ap (λ (x : Side). settled setup.decisions (init_step setup.suite x setup.config old.known c)) at.side_is)
-      (exchange_works Server 30 (settled setup.decisions (init_step setup.suite Server setup.config old.known c)) number refl at h)
-
-  pub reply_works : (signature : List ℕ) → number_of c ≡ 31 → work setup old.known c ≡ settled setup.decisions (reply_step setup.suite setup.role setup.config old.known c signature)
-      → ReceivesExchange setup.suite Client setup.config old new before after c (settled setup.decisions (reply_step setup.suite Client setup.config old.known c signature))
-      → Works setup old new payload before after (work setup old.known c)
-  reply_works signature number is h =
-      let at = at_reply setup.role old payload c has number in
-      by_reply (settled setup.decisions (reply_step setup.suite Client setup.config old.known c signature)) (is ∙ ap (λ (x : Side). settled setup.decisions (reply_step setup.suite x setup.config old.known c signature)) at.side_is)
-      (exchange_works Client 31 (settled setup.decisions (reply_step setup.suite Client setup.config old.known c signature)) number refl at h)
 
   -- a message that leaves a phase after the exchange
   leaves_works : (side : Side) (p q : Phase) (n : ℕ) (k : Known) (r : Reply) → number_of c ≡ n → leaving side p ≡ n → past_exchange p ≡ true → next_phase p ≡ q
       → IsAt setup.role side old.phase p old.guess → after_payload setup.suite setup.decisions setup.config old.known payload ≡ k
-      → ((strict : Bool) (next : KeysData) → Gives setup.suite setup.config.seed strict next old new before after r)
+      → replied answers new.end ≡ r → new.sending ≡ old.sending
       → (IsOngoing new.end → new.carried ≡ carried_after setup.suite setup.decisions setup.config old.known old.carried payload)
       → (IsOngoing new.end → StandsAt new q old.guess k)
-      → Works setup old new payload before after r
-  leaves_works side p q n k r number leaves past next at known gives keys stands =
+      → ComesPlainly setup old new payload answers r
+  leaves_works side p q n k r number leaves past next at known gives unsent keys stands =
       let none : old.guess ≡ false = at.none_due in
       let here : message_number payload ≡ leaving setup.role old.phase = has.kind_is ∙ (number ∙ sym leaves ∙ sym (rw (at.phase_is, at.side_is) refl)) in
       record {
-        gives = gives _ _;
+        reply_is = gives;
+        switches = tt;
+        unsent = unsent;
         moves = λ goes_on. Leaves none (ap past_exchange at.phase_is ∙ past) here (keys goes_on) (record {
           phase_is = (stands goes_on).phase_is ∙ sym (ap next_phase at.phase_is ∙ next);
           guess_is = (stands goes_on).guess_is ∙ none;
@@ -221,42 +197,41 @@ module _ (setup : Setup) (old new : StateData) (payload before after : List ℕ)
   carried_as n number request = sym (carried_number setup.suite setup.decisions setup.config old.known payload old.carried n (has.kind_is ∙ number) request)
 
   pub request_works : (service : List ℕ) → c ≡ ServiceRequest service
-      → ((strict : Bool) (next : KeysData) → Gives setup.suite setup.config.seed strict next old new before after (service_reply setup.config service))
+      → replied answers new.end ≡ service_reply setup.config service → new.sending ≡ old.sending
       → new.carried ≡ old.carried
       → (IsOngoing new.end → StandsAt new phase.Auth old.guess (received_one old.known))
-      → Works setup old new payload before after (work setup old.known c)
+      → ComesPlainly setup old new payload answers (work setup old.known c)
   unfolding step
-  request_works service is gives keys stands =
+  request_works service is gives unsent keys stands =
       by_reply (service_reply setup.config service) (ap (work setup old.known) is)
       (leaves_works Server phase.Service phase.Auth 5 (received_one old.known) (service_reply setup.config service) (ap number_of is) refl refl refl
-      (at_request setup.role old payload c has (ap number_of is)) (received_as 5 (ap number_of is) (λ q. omega arith) (λ q. omega arith) (λ q. omega arith) (λ q. omega arith) refl) gives (λ _. keys ∙ carried_as 5 (ap number_of is) (λ q. omega arith)) stands)
+      (at_request setup.role old payload c has (ap number_of is)) (received_as 5 (ap number_of is) (λ q. omega arith) (λ q. omega arith) (λ q. omega arith) (λ q. omega arith) refl) gives unsent (λ _. keys ∙ carried_as 5 (ap number_of is) (λ q. omega arith)) stands)
 
   pub accept_works : (service : List ℕ) → c ≡ ServiceAccept service
-      → ((strict : Bool) (next : KeysData) → Gives setup.suite setup.config.seed strict next old new before after (settled setup.decisions (accept_step setup.suite old.known service)))
+      → replied answers new.end ≡ settled setup.decisions (accept_step setup.suite old.known service) → new.sending ≡ old.sending
       → new.carried ≡ old.carried
       → (IsOngoing new.end → StandsAt new phase.Auth old.guess (received_one old.known))
-      → Works setup old new payload before after (work setup old.known c)
+      → ComesPlainly setup old new payload answers (work setup old.known c)
   unfolding step
-  accept_works service is gives keys stands =
+  accept_works service is gives unsent keys stands =
       by_reply (settled setup.decisions (accept_step setup.suite old.known service)) (ap (work setup old.known) is)
       (leaves_works Client phase.Service phase.Auth 6 (received_one old.known) (settled setup.decisions (accept_step setup.suite old.known service)) (ap number_of is) refl refl refl
-      (at_accept setup.role old payload c has (ap number_of is)) (received_as 6 (ap number_of is) (λ q. omega arith) (λ q. omega arith) (λ q. omega arith) (λ q. omega arith) refl) gives (λ _. keys ∙ carried_as 6 (ap number_of is) (λ q. omega arith)) stands)
+      (at_accept setup.role old payload c has (ap number_of is)) (received_as 6 (ap number_of is) (λ q. omega arith) (λ q. omega arith) (λ q. omega arith) (λ q. omega arith) refl) gives unsent (λ _. keys ∙ carried_as 6 (ap number_of is) (λ q. omega arith)) stands)
 
   pub user_request_works : (user service : List ℕ) (method : MethodData) → c ≡ UserauthRequest user service method
-      → ((strict : Bool) (next : KeysData) → Gives setup.suite setup.config.seed strict next old new before after (settled setup.decisions (request_step setup.suite setup.config old.known user service method)))
+      → replied answers new.end ≡ settled setup.decisions (request_step setup.suite setup.config old.known user service method) → new.sending ≡ old.sending
       → (IsOngoing new.end → new ≡ record old {
         end = new.end;
         known = counted_request old.known (tried_with user service method (is_successful setup.suite setup.decisions setup.config old.known user service method));
         carried = tried_key old.carried method (is_successful setup.suite setup.decisions setup.config old.known user service method);
-        sending = new.sending;
       })
-      → Works setup old new payload before after (work setup old.known c)
+      → ComesPlainly setup old new payload answers (work setup old.known c)
   unfolding step
-  user_request_works user service method is gives stays =
+  user_request_works user service method is gives unsent stays =
       let at = at_user_request setup.role old payload c has (ap number_of is) in
       by_reply (settled setup.decisions (request_step setup.suite setup.config old.known user service method)) (ap (work setup old.known) is)
       (leaves_works Server phase.Auth phase.Auth 50 (counted_request old.known (tried_with user service method (is_successful setup.suite setup.decisions setup.config old.known user service method))) (settled setup.decisions (request_step setup.suite setup.config old.known user service method)) (ap number_of is) refl refl refl
-      at (request_after setup.suite setup.decisions setup.config old.known payload user service method (has.kind_is ∙ ap number_of is) (has.requests user service method is)) gives (λ goes_on. ap (λ (k : StateData). k.carried) (stays goes_on)
+      at (request_after setup.suite setup.decisions setup.config old.known payload user service method (has.kind_is ∙ ap number_of is) (has.requests user service method is)) gives unsent (λ goes_on. ap (λ (k : StateData). k.carried) (stays goes_on)
       ∙ sym (carried_request setup.suite setup.decisions setup.config old.known payload old.carried user service method (has.kind_is ∙ ap number_of is) (has.requests user service method is)))
       (λ goes_on. record {
         phase_is = ap (λ (k : StateData). k.phase) (stays goes_on) ∙ at.phase_is;
@@ -265,15 +240,15 @@ module _ (setup : Setup) (old new : StateData) (payload before after : List ℕ)
       }))
 
   pub success_works : c ≡ UserauthSuccess
-      → ((strict : Bool) (next : KeysData) → Gives setup.suite setup.config.seed strict next old new before after (success_reply old.known))
+      → replied answers new.end ≡ success_reply old.known → new.sending ≡ old.sending
       → (IsOngoing new.end → new ≡ record old { end = new.end; known = received_one old.known })
-      → Works setup old new payload before after (work setup old.known c)
+      → ComesPlainly setup old new payload answers (work setup old.known c)
   unfolding step
-  success_works is gives stays =
+  success_works is gives unsent stays =
       let at = at_success setup.role old payload c has (ap number_of is) in
       by_reply (success_reply old.known) (ap (work setup old.known) is)
       (leaves_works Client phase.Auth phase.Auth 52 (received_one old.known) (success_reply old.known) (ap number_of is) refl refl refl
-      at (received_as 52 (ap number_of is) (λ q. omega arith) (λ q. omega arith) (λ q. omega arith) (λ q. omega arith) refl) gives (λ goes_on. ap (λ (k : StateData). k.carried) (stays goes_on) ∙ carried_as 52 (ap number_of is) (λ q. omega arith))
+      at (received_as 52 (ap number_of is) (λ q. omega arith) (λ q. omega arith) (λ q. omega arith) (λ q. omega arith) refl) gives unsent (λ goes_on. ap (λ (k : StateData). k.carried) (stays goes_on) ∙ carried_as 52 (ap number_of is) (λ q. omega arith))
       (λ goes_on. record {
         phase_is = ap (λ (k : StateData). k.phase) (stays goes_on) ∙ at.phase_is;
         guess_is = ap (λ (k : StateData). k.guess) (stays goes_on);
@@ -281,16 +256,18 @@ module _ (setup : Setup) (old new : StateData) (payload before after : List ℕ)
       }))
 
   pub failure_works : (listed : List (List ℕ)) (partial : Bool) → c ≡ UserauthFailure listed partial
-      → ((strict : Bool) (next : KeysData) → Gives setup.suite setup.config.seed strict next old new before after (settled setup.decisions (failure_step setup.suite old.known listed)))
-      → new ≡ record old { end = new.end; known = failed_attempt old.known listed; sending = new.sending }
-      → Works setup old new payload before after (work setup old.known c)
+      → replied answers new.end ≡ settled setup.decisions (failure_step setup.suite old.known listed) → new.sending ≡ old.sending
+      → new ≡ record old { end = new.end; known = failed_attempt old.known listed }
+      → ComesPlainly setup old new payload answers (work setup old.known c)
   unfolding step
-  failure_works listed partial is gives stays =
+  failure_works listed partial is gives unsent stays =
       let at = at_failure setup.role old payload c has (ap number_of is) in
       let none : old.guess ≡ false = at.none_due in
       let number : message_number payload ≡ 51 = has.kind_is ∙ ap number_of is in
       by_reply (settled setup.decisions (failure_step setup.suite old.known listed)) (ap (work setup old.known) is) (record {
-        gives = gives _ _;
+        reply_is = gives;
+        switches = tt;
+        unsent = unsent;
         moves = λ goes_on. Stays none (subst (λ (n : ℕ). LeavesNone setup.role n) (sym number) (table.late_leaves setup.role 51 (omega arith)))
             (ap (λ (k : StateData). k.carried) stays ∙ carried_as 51 (ap number_of is) (λ q. omega arith))
             (record {
@@ -301,16 +278,18 @@ module _ (setup : Setup) (old new : StateData) (payload before after : List ℕ)
       })
 
   pub pk_ok_works : (algorithm key : List ℕ) → c ≡ UserauthPkOk algorithm key
-      → ((strict : Bool) (next : KeysData) → Gives setup.suite setup.config.seed strict next old new before after (settled setup.decisions (pk_ok_step setup.suite old.known algorithm key)))
-      → (IsOngoing new.end → new ≡ record old { end = new.end; known = confirmed_attempt old.known; sending = new.sending })
-      → Works setup old new payload before after (work setup old.known c)
+      → replied answers new.end ≡ settled setup.decisions (pk_ok_step setup.suite old.known algorithm key) → new.sending ≡ old.sending
+      → (IsOngoing new.end → new ≡ record old { end = new.end; known = confirmed_attempt old.known })
+      → ComesPlainly setup old new payload answers (work setup old.known c)
   unfolding step
-  pk_ok_works algorithm key is gives stays =
+  pk_ok_works algorithm key is gives unsent stays =
       let at = at_confirmation setup.role old payload c has (ap number_of is) in
       let none : old.guess ≡ false = at.none_due in
       let number : message_number payload ≡ 60 = has.kind_is ∙ ap number_of is in
       by_reply (settled setup.decisions (pk_ok_step setup.suite old.known algorithm key)) (ap (work setup old.known) is) (record {
-        gives = gives _ _;
+        reply_is = gives;
+        switches = tt;
+        unsent = unsent;
         moves = λ goes_on. Stays none (subst (λ (n : ℕ). LeavesNone setup.role n) (sym number) (table.late_leaves setup.role 60 (omega arith)))
             (ap (λ (k : StateData). k.carried) (stays goes_on) ∙ carried_as 60 (ap number_of is) (λ q. omega arith))
             (record {
@@ -319,6 +298,45 @@ module _ (setup : Setup) (old new : StateData) (payload before after : List ℕ)
               known_is = ap (λ (k : StateData). k.known) (stays goes_on) ∙ sym (pk_ok_after setup.suite setup.decisions setup.config old.known payload number);
             });
       })
+
+-- a message that comes to such a reply
+by_made : (setup : Setup) (old new : StateData) (payload : List ℕ) (made : reply.Reply) (c : MessageData) (r : Reply) → work setup old.known c ≡ r → Comes setup old new payload made r
+    → Comes setup old new payload made (work setup old.known c)
+by_made setup old new payload made c r is w = subst (λ (x : Reply). Comes setup old new payload made x) (sym is) w
+
+module _ (setup : Setup) (old new : StateData) (payload : List ℕ) (made : reply.Reply) (c : MessageData) (has : HasPlace setup.role old payload c) where
+  -- the exchange message, at the side that receives it
+  exchange_works : (side : Side) (n : ℕ) (r : Reply) → number_of c ≡ n → leaving side phase.Exchange ≡ n → IsAt setup.role side old.phase phase.Exchange old.guess
+      → ReceivesExchange setup.suite side setup.config old new made c r → Comes setup old new payload made r
+  exchange_works side n r number leaves at h =
+      let same : setup.role ≡ side = at.side_is in
+      let read = has.read_is in
+      let none : old.guess ≡ false = at.none_due in
+      record {
+        reply_is = h.reply_is;
+        switches = rw (same, read) h.switches;
+        unsent = h.unsent;
+        moves = λ goes_on. Exchanges at.phase_is none
+            (has.kind_is ∙ (number ∙ sym leaves ∙ ap (λ (x : Side). leaving x phase.Exchange) (sym same)))
+            (rw (same, read) (h.carries goes_on))
+            (rw (same, read, ← none) (h.stands goes_on));
+      }
+
+  pub init_works : number_of c ≡ 30 → work setup old.known c ≡ settled setup.decisions (init_step setup.suite setup.role setup.config old.known c)
+      → ReceivesExchange setup.suite Server setup.config old new made c (settled setup.decisions (init_step setup.suite Server setup.config old.known c))
+      → Comes setup old new payload made (work setup old.known c)
+  init_works number is h =
+      let at = at_init setup.role old payload c has number in
+      by_made setup old new payload made c (settled setup.decisions (init_step setup.suite Server setup.config old.known c)) (is ∙ ap (λ (x : Side). settled setup.decisions (init_step setup.suite x setup.config old.known c)) at.side_is)
+      (exchange_works Server 30 (settled setup.decisions (init_step setup.suite Server setup.config old.known c)) number refl at h)
+
+  pub reply_works : (signature : List ℕ) → number_of c ≡ 31 → work setup old.known c ≡ settled setup.decisions (reply_step setup.suite setup.role setup.config old.known c signature)
+      → ReceivesExchange setup.suite Client setup.config old new made c (settled setup.decisions (reply_step setup.suite Client setup.config old.known c signature))
+      → Comes setup old new payload made (work setup old.known c)
+  reply_works signature number is h =
+      let at = at_reply setup.role old payload c has number in
+      by_made setup old new payload made c (settled setup.decisions (reply_step setup.suite Client setup.config old.known c signature)) (is ∙ ap (λ (x : Side). settled setup.decisions (reply_step setup.suite x setup.config old.known c signature)) at.side_is)
+      (exchange_works Client 31 (settled setup.decisions (reply_step setup.suite Client setup.config old.known c signature)) number refl at h)
 
 -- the fields of a method that is no longer than a packet are no longer
 pub fits_method : (x : MethodData) → method_length x ≤ PACKET_LIMIT → FitsMethod x
@@ -332,24 +350,28 @@ fits_method (PublicKeyQuery algorithm key) short = tt
 fits_method (OtherMethod name fields) short = tt
 
 -- messages to which nothing is sent
-module _ (setup : Setup) (old new : StateData) (payload before : List ℕ) (c : MessageData) (has : HasPlace setup.role old payload c) where
+module _ (setup : Setup) (old new : StateData) (payload : List ℕ) (answers : Units) (silent : answers ≡ []) (c : MessageData) (has : HasPlace setup.role old payload c) where
   pub disconnect_works : (reason : ℕ) (description language : List ℕ) → c ≡ Disconnect reason description language → new.end ≡ Closed reason → new.sending ≡ old.sending
-      → Works setup old new payload before before (work setup old.known c)
+      → ComesPlainly setup old new payload answers (work setup old.known c)
   unfolding step
   disconnect_works reason description language is ends sends =
-      by_reply setup old new payload before before c has (record { answers = []; end = Closed reason }) (ap (work setup old.known) is) (record {
-        gives = silent setup.suite setup.config.seed old.known.strict _ old new before (Closed reason) ends sends;
+      by_made setup old new payload (record { answers = answers; switch = None }) c (record { answers = []; end = Closed reason }) (ap (work setup old.known) is) (record {
+        reply_is = ap (λ (a : Units). replied a new.end) silent ∙ ap (replied []) ends;
+        switches = tt;
+        unsent = sends;
         moves = λ goes_on. absurd (closed_ends new.end reason ends goes_on);
       })
 
   pub newkeys_works : c ≡ NewKeys → old.end ≡ Open → new ≡ record old { phase = phase.Service; known = received_newkeys setup.config old.known }
-      → Works setup old new payload before before (work setup old.known c)
+      → ComesPlainly setup old new payload answers (work setup old.known c)
   unfolding step
   newkeys_works is stays next =
       let at = at_newkeys setup.role old payload c has (ap number_of is) in
       let none : old.guess ≡ false = at.none_due in
-      by_reply setup old new payload before before c has (goes []) (ap (work setup old.known) is) (record {
-        gives = silent setup.suite setup.config.seed old.known.strict _ old new before Open (ap (λ (k : StateData). k.end) next ∙ stays) (ap (λ (k : StateData). k.sending) next);
+      by_made setup old new payload (record { answers = answers; switch = None }) c (goes []) (ap (work setup old.known) is) (record {
+        reply_is = ap (λ (a : Units). replied a new.end) silent ∙ ap (replied []) (ap (λ (k : StateData). k.end) next ∙ stays);
+        switches = tt;
+        unsent = ap (λ (k : StateData). k.sending) next;
         moves = λ goes_on. Leaves none (ap past_exchange at.phase_is)
             (has.kind_is ∙ ap number_of is ∙ sym (ap (leaving setup.role) at.phase_is))
             (ap (λ (k : StateData). k.carried) next ∙ sym (carried_number setup.suite setup.decisions setup.config old.known payload old.carried 21 (has.kind_is ∙ ap number_of is) (λ q. omega arith)))
@@ -361,12 +383,14 @@ module _ (setup : Setup) (old new : StateData) (payload before : List ℕ) (c : 
       })
 
   pub plain_works : IsPlain (number_of c) → work setup old.known c ≡ goes [] → old.end ≡ Open → new ≡ record old { known = received_counted old.known payload }
-      → Works setup old new payload before before (work setup old.known c)
+      → ComesPlainly setup old new payload answers (work setup old.known c)
   plain_works plain is stays next =
       let calm = table.plain_read setup.role old.phase old.guess (number_of c) plain has.reads_it in
       let none : old.guess ≡ false = calm.0 in
-      by_reply setup old new payload before before c has (goes []) is (record {
-        gives = silent setup.suite setup.config.seed old.known.strict _ old new before Open (ap (λ (k : StateData). k.end) next ∙ stays) (ap (λ (k : StateData). k.sending) next);
+      by_made setup old new payload (record { answers = answers; switch = None }) c (goes []) is (record {
+        reply_is = ap (λ (a : Units). replied a new.end) silent ∙ ap (replied []) (ap (λ (k : StateData). k.end) next ∙ stays);
+        switches = tt;
+        unsent = ap (λ (k : StateData). k.sending) next;
         moves = λ goes_on. Stays none (subst (λ (n : ℕ). LeavesNone setup.role n) (sym has.kind_is) calm.1)
             (ap (λ (k : StateData). k.carried) next ∙ sym (carried_number setup.suite setup.decisions setup.config old.known payload old.carried (number_of c) has.kind_is plain.user_request))
             (record {

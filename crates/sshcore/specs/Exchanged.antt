@@ -1,7 +1,7 @@
 -- What an endpoint does at the peer's exchange message (RFC 4253 section 8).
 
-use Rattle.std.specs.Prelude.{◌≡◌, ℕ, Bool, true, false, List, ◌++◌, None, Ok}
-use Rattle.sshmsg.specs.MessageData.{MessageData, NewKeys, ServiceRequest}
+use Rattle.std.specs.Prelude.{◌≡◌, ℕ, true, false, List, [], ◌∷◌, None, Some, Ok}
+use Rattle.sshmsg.specs.MessageData.{MessageData, ServiceRequest}
 use Rattle.sshmsg.specs.Written.{written_message}
 use Rattle.sshneg.specs.declared.side.Side.{Side}
 use Rattle.sshneg.specs.Derivations.{ExchangeData, derived}
@@ -9,17 +9,19 @@ use Rattle.sshneg.specs.ExchangeEnd.{client_of, exchange_hash, server_of}
 use Rattle.sshneg.specs.Fields.{AlgorithmsData}
 use Rattle.sshneg.specs.Markers.{other}
 use Rattle.sshpacket.specs.KeysData.{KeysData}
+use Rattle.sshpacket.specs.Stream.{Units}
 use Rattle.sshpacket.specs.Suite.{ResponseData, SuiteData}
+use Rattle.sshcore.specs.declared.end.Fault.{Fault}
 use Rattle.sshcore.specs.declared.end.Fault.TheVariants as fault
 use Rattle.sshcore.specs.declared.phase_table.Phase.TheVariants as phase
-use Rattle.sshcore.specs.Brings.{Gives, IsOngoing, StandsAt}
+use Rattle.sshcore.specs.declared.reply.Reply as reply
+use Rattle.sshcore.specs.Brings.{IsOngoing, StandsAt}
 use Rattle.sshcore.specs.Chosen.{cipher_of, mac_of}
 use Rattle.sshcore.specs.EndData.{Reply, fails}
 use Rattle.sshcore.specs.Exchange.{exchange_with, keys_by, own_kexinit, secret_of}
-use Rattle.sshcore.specs.Directions.{spelled_by}
-use Rattle.sshcore.specs.History.{AllFit}
+use Rattle.sshcore.specs.Comes.{SwitchesTo}
+use Rattle.sshcore.specs.ReplyView.{answers_of, replied}
 use Rattle.sshcore.specs.StateData.{StateData, with_exchange}
-use Rattle.sshcore.specs.Output.{Sending, sending_from, sent_from, with_newkeys, with_packet}
 use Rattle.sshcore.specs.Work.{told_by, userauth}
 use Rattle.sshcore.specs.KnownBefore.{Known}
 use Rattle.sshcore.specs.EndpointParts.{ConfigData}
@@ -60,10 +62,18 @@ kex_keys m a shared hash sender =
 abbrev pub exchange_of_message : SuiteData → Side → ConfigData → Known → MessageData → ExchangeData
 exchange_of_message m role config known message = exchange_with m role config known.algorithms known.version known.kexinit (Ok message)
 
--- It receives the exchange message: it gives this reply; and where it goes on it stands after the exchange, with the keys of what
--- is received and the host key.
-pub record ReceivesExchange (m : SuiteData) (role : Side) (config : ConfigData) (old new : StateData) (before after : List ℕ) (message : MessageData) (r : Reply) : Type 0 where
-  pub gives : Gives m config.seed old.known.strict (keys_by m old.known.algorithms (exchange_of_message m role config old.known message) role) old new before after r
+-- It has failed so, and switches no keys.
+pub record FailsBy (old new : StateData) (f : Fault) (made : reply.Reply) : Type 0 where
+  pub reply_is : replied (answers_of made) new.end ≡ fails f
+  pub no_switch : made.switch ≡ None
+  pub unsent : new.sending ≡ old.sending
+
+-- It receives the exchange message: it comes to this reply, with the keys of the exchange where they are switched; and where it goes on
+-- it stands after the exchange, with the keys of what is received and the host key. Nothing is sent yet.
+pub record ReceivesExchange (m : SuiteData) (role : Side) (config : ConfigData) (old new : StateData) (made : reply.Reply) (message : MessageData) (r : Reply) : Type 0 where
+  pub reply_is : replied (answers_of made) new.end ≡ r
+  pub switches : SwitchesTo made.switch old.known.strict (keys_by m old.known.algorithms (exchange_of_message m role config old.known message) role) new
+  pub unsent : new.sending ≡ old.sending
   pub carries : IsOngoing new.end → new.carried ≡ with_exchange config (keys_by m old.known.algorithms (exchange_of_message m role config old.known message) (other role))
       (exchange_of_message m role config old.known message).host_key old.carried
   pub stands : IsOngoing new.end → StandsAt new phase.NewKeys old.guess
@@ -88,38 +98,34 @@ server_shares m config known share answer = record {
   shared = answer.shared;
 }
 
--- what is kept after an exchange of this host key, shared secret and hash, with these packets sent
-pub record StandsAfter (m : SuiteData) (role : Side) (config : ConfigData) (old new : StateData) (host_key shared hash : List ℕ) (o : Sending) : Type 0 where
+-- what is kept after an exchange of this host key, shared secret and hash
+pub record StandsAfter (m : SuiteData) (role : Side) (config : ConfigData) (old new : StateData) (host_key shared hash : List ℕ) : Type 0 where
   pub kept : new ≡ record old {
     phase = phase.NewKeys;
     known = record old.known { session = hash };
     carried = with_exchange config (kex_keys m old.known.algorithms shared hash (other role)) host_key old.carried;
-    sending = o;
   }
 
--- A server sends its answer, NEWKEYS and what it tells a client that asks, and stands after the exchange.
-pub record AnswersInit (m : SuiteData) (role : Side) (config : ConfigData) (old new : StateData) (host_key shared hash reply before after : List ℕ) : Type 0 where
-  pub output : let next = kex_keys m old.known.algorithms shared hash role in
-      after ≡ ((before ++ spelled_by m old.sending.keys config.seed old.sending.number reply)
-      ++ spelled_by m (with_packet m reply old.sending).keys config.seed (with_packet m reply old.sending).number (written_message NewKeys))
-      ++ sent_from m config.seed old.known.strict next (with_newkeys old.known.strict next (with_packet m reply old.sending)) (told_by config old.known)
-  pub stands : let next = kex_keys m old.known.algorithms shared hash role in
-      StandsAfter m role config old new host_key shared hash
-      (sending_from m old.known.strict next (with_newkeys old.known.strict next (with_packet m reply old.sending)) (told_by config old.known))
-  pub fits : AllFit (told_by config old.known)
+-- these answers, and after NEWKEYS with the keys of the exchange those
+abbrev pub switching : SuiteData → Side → StateData → List ℕ → List ℕ → Units → Units → reply.Reply
+switching m role old shared hash answers more =
+    record { answers = answers; switch = Some (record { keys = kex_keys m old.known.algorithms shared hash role; answers = more }) }
 
--- A client has accepted the server's exchange message: it sends NEWKEYS and requests the service.
-pub record AcceptsReply (m : SuiteData) (role : Side) (config : ConfigData) (old new : StateData) (host_key shared hash before after : List ℕ) : Type 0 where
-  pub output : let o = with_newkeys old.known.strict (kex_keys m old.known.algorithms shared hash role) old.sending in
-      after ≡ (before ++ spelled_by m old.sending.keys config.seed old.sending.number (written_message NewKeys))
-      ++ spelled_by m o.keys config.seed o.number (written_message (ServiceRequest userauth))
-  pub stands : StandsAfter m role config old new host_key shared hash (with_packet m (written_message (ServiceRequest userauth)) (with_newkeys old.known.strict (kex_keys m old.known.algorithms shared hash role) old.sending))
+-- A server answers by this payload, NEWKEYS and what it tells a client that asks, and stands after the exchange.
+pub record AnswersInit (m : SuiteData) (role : Side) (config : ConfigData) (old new : StateData) (host_key shared hash payload : List ℕ) (made : reply.Reply) : Type 0 where
+  pub made_is : made ≡ switching m role old shared hash (payload ∷ []) (told_by config old.known)
+  pub stands : StandsAfter m role config old new host_key shared hash
+
+-- A client has accepted the server's exchange message: it answers by NEWKEYS and requests the service.
+pub record AcceptsReply (m : SuiteData) (role : Side) (config : ConfigData) (old new : StateData) (host_key shared hash : List ℕ) (made : reply.Reply) : Type 0 where
+  pub made_is : made ≡ switching m role old shared hash [] (written_message (ServiceRequest userauth) ∷ [])
+  pub stands : StandsAfter m role config old new host_key shared hash
 
 -- A client judges the signature over what both have given: it accepts, or fails.
-pub data JudgesReply (m : SuiteData) (role : Side) (config : ConfigData) (old new : StateData) (shares : SharesData) (signature before after : List ℕ) : Type 0 where
+pub data JudgesReply (m : SuiteData) (role : Side) (config : ConfigData) (old new : StateData) (shares : SharesData) (signature : List ℕ) (made : reply.Reply) : Type 0 where
   Accepts : m.verify old.known.algorithms.host_key shares.host_key (exchange_hash m old.known.algorithms.kex (exchanged role config old.known shares)) signature ≡ true
-      → AcceptsReply m role config old new shares.host_key shares.shared (exchange_hash m old.known.algorithms.kex (exchanged role config old.known shares)) before after
-      → JudgesReply m role config old new shares signature before after
+      → AcceptsReply m role config old new shares.host_key shares.shared (exchange_hash m old.known.algorithms.kex (exchanged role config old.known shares)) made
+      → JudgesReply m role config old new shares signature made
   Refuses : m.verify old.known.algorithms.host_key shares.host_key (exchange_hash m old.known.algorithms.kex (exchanged role config old.known shares)) signature ≡ false
-      → ((strict : Bool) (next : KeysData) → Gives m config.seed strict next old new before after (fails fault.Signature))
-      → JudgesReply m role config old new shares signature before after
+      → FailsBy old new fault.Signature made
+      → JudgesReply m role config old new shares signature made

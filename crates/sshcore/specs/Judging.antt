@@ -141,6 +141,12 @@ abbrev pub is_at_once : Judged → Bool
 is_at_once (judged.Asks message p) = false
 is_at_once _ = true
 
+-- it isn't read as a message
+abbrev pub is_unread : Judged → Bool
+is_unread (judged.Reads message) = false
+is_unread (judged.Asks message p) = false
+is_unread _ = true
+
 -- what it asks, if it does
 abbrev pub pending_in : Judged → Option Pending
 pending_in (judged.Asks message p) = Some p

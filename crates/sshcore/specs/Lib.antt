@@ -40,6 +40,9 @@ pub mod Authenticating
 pub mod StateData
 pub mod Shown
 pub mod Brings
+pub mod PlainPayload
+pub mod ReplyView
+pub mod Comes
 pub mod Questions
 pub mod Step
 pub mod QuestionAt

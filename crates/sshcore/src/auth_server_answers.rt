@@ -1,98 +1,75 @@
 //! How a server answers a request of authentication (RFC 4252 sections 5.1 and 7).
 
-ghost use Rattle.std.specs.Prelude.{◌≡◌, ◌<◌, ◌≤◌, ◌∷◌, [], Bool, OnOk, length, true};
+ghost use Rattle.std.specs.Prelude.{◌≡◌, ◌<◌, ◌≤◌, ◌∷◌, [], IfOk, OnOk, length, true};
 ghost use Rattle.sshwire.specs.declared.limits.TheConstants.{NAME_LIMIT};
 ghost use Rattle.sshmsg.specs.MessageData as content;
 ghost use Rattle.sshmsg.specs.Written.{written_message};
-ghost use Rattle.sshpacket.specs.KeysData.{KeysData};
 ghost use Rattle.sshpacket.specs.declared.limits.TheConstants.{BLOB_LIMIT};
 ghost use Rattle.sshcore.specs.declared.config_parts.TheConstants.{TRIES_LIMIT};
 ghost use Rattle.sshcore.specs.declared.end.Fault.TheVariants as fault;
 ghost use Rattle.sshcore.specs.declared.phase_table.Phase.TheVariants as phase;
 ghost use Rattle.sshcore.specs.Attempts.{agreed_by};
 ghost use Rattle.sshcore.specs.Authenticating.{one_request};
-ghost use Rattle.sshcore.specs.Brings.{Gives, IsOngoing};
+ghost use Rattle.sshcore.specs.Brings.{IsOngoing};
 ghost use Rattle.sshcore.specs.EndpointConfig.{config_data};
 ghost use Rattle.sshcore.specs.EndData.{Authenticated, Failed, Open, by_input, end_data, goes};
 ghost use Rattle.sshcore.specs.StateData.{state_data};
+ghost use Rattle.sshcore.specs.ReplyView.{replied};
 ghost use Rattle.sshcore.specs.Requests.{more_reply};
 
 use crate::config::Config;
 use crate::config_kexinit::list_of;
 use crate::end::Fault;
+use crate::reply::Answers;
 use crate::state::State;
 use sshmsg::Message;
-use sshpacket::{BLOB_LIMIT, Suite};
+use sshpacket::BLOB_LIMIT;
 use sshwire::Memory;
 
 impl State<'_> {
     /// Refuses a request, or fails as `TooManyTries` at the last one that is granted.
-    pub(crate) fn refuse_more<S: Suite>(
+    pub(crate) fn refuse_more(
         &mut self,
         config: &Config<'_>,
-        suite: &S,
         partial: bool,
-        sent: &mut Vec<u8>,
-    ) -> Result<(), Memory>
+    ) -> Result<Answers, Memory>
         requires open { end_data self.old.end ≡ Open }
-        ensures gives { OnOk result ((strict : Bool) (next : KeysData)
-            → Gives (S.meaning suite.now) (config_data config.now).seed strict next (state_data self.old) (state_data self.new) sent.old.items sent.new.items
-            (more_reply (config_data config.now) (state_data self.old).known (content.UserauthFailure (config_data config.now).methods partial))) }
+        ensures gives { IfOk result (λ answers. replied answers (end_data self.new.end) ≡ more_reply (config_data config.now) (state_data self.old).known (content.UserauthFailure (config_data config.now).methods partial)) }
         ensures stays { OnOk result (IsOngoing (state_data self.new).end → state_data self.new ≡ record (state_data self.old) {
           known = one_request (state_data self.old).known;
-          sending = (state_data self.new).sending;
         }) }
+        ensures unsent { OnOk result ((state_data self.new).sending ≡ (state_data self.old).sending) }
         ensures kept { OnOk result (by_input (end_data self.new.end) ≡ true) }
     {
         if self.request >= config.tries() {
-            return self.fail(config, suite, Fault::TooManyTries, sent);
+            return self.fail(Fault::TooManyTries);
         }
-        self.refuse(config, suite, partial, sent)
+        self.refuse(config, partial)
     }
 
     /// Sends SUCCESS; the user is authenticated for this service.
-    pub(crate) fn succeed<S: Suite>(
-        &mut self,
-        config: &Config<'_>,
-        suite: &S,
-        user: &str,
-        service: &str,
-        sent: &mut Vec<u8>,
-    ) -> Result<(), Memory>
+    pub(crate) fn succeed(&mut self, user: &str, service: &str) -> Result<Answers, Memory>
         requires open { end_data self.old.end ≡ Open }
         requires at { self.old.phase ≡ phase.Auth }
-        ensures gives { OnOk result ((strict : Bool) (next : KeysData)
-            → Gives (S.meaning suite.now) (config_data config.now).seed strict next (state_data self.old) (state_data self.new) sent.old.items sent.new.items
-            (record { answers = written_message content.UserauthSuccess ∷ []; end = Authenticated (agreed_by (state_data self.old).known user.now service.now) })) }
+        ensures gives { IfOk result (λ answers. replied answers (end_data self.new.end) ≡ record { answers = written_message content.UserauthSuccess ∷ []; end = Authenticated (agreed_by (state_data self.old).known user.now service.now) }) }
         ensures stays { OnOk result (state_data self.new ≡ record (state_data self.old) {
           end = Authenticated (agreed_by (state_data self.old).known user.now service.now);
           known = one_request (state_data self.old).known;
-          sending = (state_data self.new).sending;
         }) }
     {
         sshmsg::lengths_law();
-        self.tell(config, suite, Message::UserauthSuccess, sent)?;
         self.authenticate(user, service)?;
         self.count_request();
-        Ok(())
+        Answers::message(self.alloc, Message::UserauthSuccess)
     }
 
     /// Sends FAILURE with the methods that may go on, and whether the request succeeded as one of several.
-    pub(crate) fn refuse<S: Suite>(
-        &mut self,
-        config: &Config<'_>,
-        suite: &S,
-        partial: bool,
-        sent: &mut Vec<u8>,
-    ) -> Result<(), Memory>
+    pub(crate) fn refuse(&mut self, config: &Config<'_>, partial: bool) -> Result<Answers, Memory>
         requires open { end_data self.old.end ≡ Open }
         requires granted { self.old.request < TRIES_LIMIT }
-        ensures gives { OnOk result ((strict : Bool) (next : KeysData)
-            → Gives (S.meaning suite.now) (config_data config.now).seed strict next (state_data self.old) (state_data self.new) sent.old.items sent.new.items
-            (goes (written_message (content.UserauthFailure (config_data config.now).methods partial) ∷ []))) }
+        ensures gives { IfOk result (λ answers. replied answers (end_data self.new.end) ≡ goes (written_message (content.UserauthFailure (config_data config.now).methods partial) ∷ [])) }
         ensures stays { OnOk result (state_data self.new ≡ record (state_data self.old) {
           known = one_request (state_data self.old).known;
-          sending = (state_data self.new).sending;
         }) }
     {
         sshmsg::lengths_law();
@@ -103,28 +80,18 @@ impl State<'_> {
             methods,
             partial_success: partial,
         };
-        self.tell(config, suite, refusal, sent)
+        Answers::message(self.alloc, refusal)
     }
 
     /// Sends PK_OK.
-    pub(crate) fn confirm<S: Suite>(
-        &mut self,
-        config: &Config<'_>,
-        suite: &S,
-        algorithm: &str,
-        key: &[u8],
-        sent: &mut Vec<u8>,
-    ) -> Result<(), Memory>
+    pub(crate) fn confirm(&mut self, algorithm: &str, key: &[u8]) -> Result<Answers, Memory>
         requires open { end_data self.old.end ≡ Open }
         requires granted { self.old.request < TRIES_LIMIT }
         requires algorithm { length algorithm.now ≤ NAME_LIMIT }
         requires key { length key.now ≤ BLOB_LIMIT }
-        ensures gives { OnOk result ((strict : Bool) (next : KeysData)
-            → Gives (S.meaning suite.now) (config_data config.now).seed strict next (state_data self.old) (state_data self.new) sent.old.items sent.new.items
-            (goes (written_message (content.UserauthPkOk algorithm.now key.now) ∷ []))) }
+        ensures gives { IfOk result (λ answers. replied answers (end_data self.new.end) ≡ goes (written_message (content.UserauthPkOk algorithm.now key.now) ∷ [])) }
         ensures stays { OnOk result (state_data self.new ≡ record (state_data self.old) {
           known = one_request (state_data self.old).known;
-          sending = (state_data self.new).sending;
         }) }
     {
         sshmsg::lengths_law();
@@ -133,6 +100,6 @@ impl State<'_> {
             algorithm: algorithm.as_bytes(),
             key,
         };
-        self.tell(config, suite, confirmation, sent)
+        Answers::message(self.alloc, confirmation)
     }
 }

@@ -10,6 +10,7 @@ ghost use Rattle.sshcore.specs.StateData.{state_data};
 
 use crate::config::Config;
 use crate::end::End;
+use crate::reply::Answers;
 use crate::state::State;
 use sshmsg::Message;
 use sshpacket::Suite;
@@ -45,7 +46,8 @@ impl State<'_> {
             description: sent_text(description),
             language: b"",
         };
-        self.tell(config, suite, parting, &mut sent)?;
+        let answers = Answers::message(self.alloc, parting)?;
+        self.send_answers(config, suite, &answers, &mut sent)?;
         out.extend_from_slice(&sent)?;
         self.end = End::Disconnected(reason);
         Ok(())

@@ -1,6 +1,6 @@
 //! What an endpoint reads its bytes with.
 
-ghost use Rattle.std.specs.Prelude.{◌≡◌, ◌≢◌, ◌+◌, ◌*◌, ◌<◌, ◌≤◌, ℕ, Bool, IfOk, List, None, OnOk, length, take, true};
+ghost use Rattle.std.specs.Prelude.{◌≡◌, ◌≢◌, ◌+◌, ◌*◌, ◌<◌, ◌≤◌, ℕ, Bool, IfOk, IfSome, List, None, OnOk, length, take, true};
 ghost use Rattle.sshwire.specs.Feeding.{StandsOpen};
 ghost use Rattle.sshwire.specs.LineReaderData.{Finished, PeerLineReaderData};
 ghost use Rattle.sshwire.specs.declared.fault.WireFault.TheVariants as wire;
@@ -166,12 +166,21 @@ pub(crate) fn fail_packet<S: Suite>(
     ensures ends { OnOk result (end_data state.new.end ≡ Failed (fault_of (OfPacket fault))) }
     ensures refused { OnOk result (fault ≢ packet.Memory) }
 {
+    let Some(fault) = fault_of(fault) else {
+        return Err(Memory);
+    };
+    let answers = state.fail(fault)?;
+    state.send_answers(config, suite, &answers, sent)
+}
+
+/// The failure of a refused packet; none where memory ran out.
+fn fault_of(fault: PacketFault) -> Option<Fault>
+    ensures { IfSome result (λ found. (found ≡ fault_of (OfPacket fault)) × (fault ≢ packet.Memory)) }
+{
     match fault {
-        PacketFault::Length => state.fail(config, suite, Fault::Length, sent),
-        PacketFault::Padding | PacketFault::Empty => {
-            state.fail(config, suite, Fault::Padding, sent)
-        }
-        PacketFault::Mac => state.fail(config, suite, Fault::Mac, sent),
-        PacketFault::Memory => Err(Memory),
+        PacketFault::Length => Some(Fault::Length),
+        PacketFault::Padding | PacketFault::Empty => Some(Fault::Padding),
+        PacketFault::Mac => Some(Fault::Mac),
+        PacketFault::Memory => None,
     }
 }

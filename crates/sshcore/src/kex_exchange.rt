@@ -2,20 +2,18 @@
 
 ghost use Rattle.std.specs.Prelude.{◌≡◌, ◌≤◌, ◌<◌, IfOk, IfSome, List, None, Ok, OnOk, Some, is_some, length, option_map, true, ℕ, Bool};
 ghost use Rattle.sshpacket.specs.declared.limits.TheConstants.{DIGEST_LIMIT, PACKET_LIMIT, SHARE_LIMIT, SIGNATURE_LIMIT};
-ghost use Rattle.sshpacket.specs.KeysData.{KeysData};
 ghost use Rattle.sshpacket.specs.Suite.{FitsShare, ResponseData, response_data};
 ghost use Rattle.sshneg.specs.declared.side.Side.TheVariants.{Server};
 ghost use Rattle.sshcore.specs.declared.end.Fault.TheVariants as fault;
 ghost use Rattle.sshcore.specs.declared.phase_table.Phase.TheVariants as phase;
-ghost use Rattle.sshcore.specs.Brings.{Gives};
 ghost use Rattle.sshcore.specs.EndpointConfig.{config_data, role_of};
-ghost use Rattle.sshcore.specs.EndData.{Failed, Open, by_input, end_data, goes};
+ghost use Rattle.sshcore.specs.EndData.{Failed, Open, by_input, end_data};
 ghost use Rattle.sshcore.specs.EndpointParts.{DecisionsData};
 ghost use Rattle.sshcore.specs.Exchange.{secret_of, share_read};
 ghost use Rattle.sshcore.specs.Exchanged.{AnswersInit, HasForm, ReceivesExchange, exchange_of_message};
 ghost use Rattle.sshcore.specs.Prepared.{FitsPrepared, IsPrepared, IsPreparedBy};
 ghost use Rattle.sshcore.specs.StateData.{state_data, with_exchange};
-ghost use Rattle.sshcore.specs.History.{FitsPacket};
+ghost use Rattle.sshcore.specs.PlainPayload.{IsPlainPayload};
 ghost use Rattle.sshcore.specs.Step.{asked_in, settled};
 ghost use Rattle.sshcore.specs.Work.{init_step, signed_reply, told_by};
 
@@ -24,6 +22,7 @@ use crate::end::Fault;
 use crate::payloads::{extensions_payload, reply_payload};
 use crate::pending::Prepared;
 use crate::phase_table::Phase;
+use crate::reply::{Answers, Reply, Switch};
 use crate::state::State;
 use sshneg::Exchange;
 use sshpacket::{Keys, Response, Suite};
@@ -64,27 +63,26 @@ impl State<'_> {
         config: &Config<'_>,
         suite: &S,
         share: &[u8],
-        sent: &mut Vec<u8>,
-    ) -> Result<(), Memory>
+    ) -> Result<Reply, Memory>
         requires open { end_data self.old.end ≡ Open }
         requires at { self.old.phase ≡ phase.Exchange }
         requires server { role_of config.now ≡ Server }
         requires short { length share.now ≤ PACKET_LIMIT }
-        ensures receives { OnOk result ((d : DecisionsData) (message : MessageData) → share_read (Ok message) ≡ share.now
+        ensures receives { IfOk result (λ reply. (d : DecisionsData) (message : MessageData) → share_read (Ok message) ≡ share.now
             → asked_in (init_step (S.meaning suite.now) Server (config_data config.now) (state_data self.old).known message) ≡ None → HasForm (S.meaning suite.now) (state_data self.old)
-            → ReceivesExchange (S.meaning suite.now) Server (config_data config.now) (state_data self.old) (state_data self.new) sent.old.items sent.new.items message
+            → ReceivesExchange (S.meaning suite.now) Server (config_data config.now) (state_data self.old) (state_data self.new) reply message
             (settled d (init_step (S.meaning suite.now) Server (config_data config.now) (state_data self.old).known message))) }
         ensures kept { OnOk result (by_input (end_data self.new.end) ≡ true) }
     {
         let name = self.algorithms.as_ref().unwrap().host_key();
         if !suite.holds(name, config.secret(name)) {
-            return self.fail(config, suite, Fault::Exchange, sent);
+            return self.fail_reply(Fault::Exchange);
         }
         match self.prepare_init(config, suite, share)? {
-            None => self.fail(config, suite, Fault::Exchange, sent),
+            None => self.fail_reply(Fault::Exchange),
             Some(prepared) => {
                 let signature = self.sign_init(config, suite, &prepared)?;
-                self.answer_init(config, suite, &prepared, Some(&signature), sent)
+                self.answer_init(config, suite, &prepared, Some(&signature))
             }
         }
     }
@@ -165,75 +163,64 @@ impl State<'_> {
         suite: &S,
         prepared: &Prepared,
         signature: Option<&[u8]>,
-        sent: &mut Vec<u8>,
-    ) -> Result<(), Memory>
+    ) -> Result<Reply, Memory>
         requires open { end_data self.old.end ≡ Open }
         requires at { self.old.phase ≡ phase.Exchange }
         requires server { role_of config.now ≡ Server }
         requires fits { FitsPrepared (S.meaning suite.now) (state_data self.old).known prepared.now }
         requires signature { IfSome signature (λ s. length s.now ≤ SIGNATURE_LIMIT) }
-        ensures receives { OnOk result ((message : MessageData) (share : List ℕ) → share_read (Ok message) ≡ share
+        ensures receives { IfOk result (λ reply. (message : MessageData) (share : List ℕ) → share_read (Ok message) ≡ share
             → IsPrepared (S.meaning suite.now) (role_of config.now) (config_data config.now) (state_data self.old).known share prepared.now → HasForm (S.meaning suite.now) (state_data self.old)
-            → ReceivesExchange (S.meaning suite.now) Server (config_data config.now) (state_data self.old) (state_data self.new) sent.old.items sent.new.items message
+            → ReceivesExchange (S.meaning suite.now) Server (config_data config.now) (state_data self.old) (state_data self.new) reply message
             (signed_reply (config_data config.now) (state_data self.old).known
             (exchange_of_message (S.meaning suite.now) Server (config_data config.now) (state_data self.old).known message) (option_map (λ s. s.now) signature.entry))) }
         ensures kept { OnOk result (by_input (end_data self.new.end) ≡ true) }
     {
         let Some(signature) = signature else {
-            return self.fail(config, suite, Fault::Exchange, sent);
+            return self.fail_reply(Fault::Exchange);
         };
         let form = suite.share_form(self.algorithms.as_ref().unwrap().kex());
         let share = &prepared.response.share;
-        let reply = reply_payload(self.alloc, form, &prepared.host_key, share, signature)?;
-        self.send_init_answer(config, suite, prepared, &reply, sent)
+        let answer = reply_payload(self.alloc, form, &prepared.host_key, share, signature)?;
+        self.finish_exchange(config, suite, prepared, answer)
     }
 
-    /// Sends the answer, NEWKEYS and what a client that asks is told, and stands after the exchange.
-    fn send_init_answer<S: Suite>(
+    /// Answers by this payload, NEWKEYS and what a client that asks is told, and stands after the exchange.
+    fn finish_exchange<S: Suite>(
         &mut self,
         config: &Config<'_>,
         suite: &S,
         prepared: &Prepared,
-        reply: &[u8],
-        sent: &mut Vec<u8>,
-    ) -> Result<(), Memory>
-        requires open { end_data self.old.end ≡ Open }
+        answer: Vec<u8>,
+    ) -> Result<Reply, Memory>
         requires at { self.old.phase ≡ phase.Exchange }
-        requires reply { FitsPacket reply.now }
+        requires answer { IsPlainPayload answer.items }
         requires hash { length prepared.now.hash.items ≤ DIGEST_LIMIT }
         requires shared { length prepared.now.response.shared.items ≤ SHARE_LIMIT }
-        ensures { OnOk result (AnswersInit (S.meaning suite.now) (role_of config.now) (config_data config.now) (state_data self.old) (state_data self.new)
-            prepared.now.host_key.items prepared.now.response.shared.items prepared.now.hash.items reply.now sent.old.items sent.new.items) }
+        ensures { IfOk result (λ reply. AnswersInit (S.meaning suite.now) (role_of config.now) (config_data config.now) (state_data self.old) (state_data self.new)
+            prepared.now.host_key.items prepared.now.response.shared.items prepared.now.hash.items answer.items reply) }
     {
         let keys = self.both_keys(config, suite, &prepared.response.shared, &prepared.hash)?;
-        self.send(config, suite, reply, sent)?;
-        self.send_new_keys(config, suite, keys.outgoing, sent)?;
-        self.send_extensions(config, suite, sent)?;
+        let answers = Answers::one(self.alloc, answer)?;
+        let told = self.extensions(config)?;
         let hash = Vec::from_slice(self.alloc, &prepared.hash)?;
         let host_key = Vec::from_slice(self.alloc, &prepared.host_key)?;
-        self.stand_after_exchange(config, hash, host_key, keys.incoming)
+        let reply = switching(answers, keys.outgoing, told);
+        self.stand_after_exchange(config, hash, host_key, keys.incoming)?;
+        Ok(reply)
     }
 
-    /// Tells a client that asks the algorithms of users' keys, if the server has a list of them (RFC 8308 sections
+    /// What a client that asks is told: the algorithms of users' keys, if the server has a list of them (RFC 8308 sections
     /// 2.4 and 3.1).
-    fn send_extensions<S: Suite>(
-        &mut self,
-        config: &Config<'_>,
-        suite: &S,
-        sent: &mut Vec<u8>,
-    ) -> Result<(), Memory>
-        requires open { end_data self.old.end ≡ Open }
-        ensures gives { OnOk result ((strict : Bool) (next : KeysData)
-            → Gives (S.meaning suite.now) (config_data config.now).seed strict next (state_data self.old) (state_data self.new) sent.old.items sent.new.items
-            (goes (told_by (config_data config.now) (state_data self.old).known))) }
-        ensures stays { OnOk result (state_data self.new ≡ record (state_data self.old) { sending = (state_data self.new).sending }) }
+    fn extensions(&self, config: &Config<'_>) -> Result<Answers, Memory>
+        ensures { IfOk result (λ answers. answers ≡ told_by (config_data config.now) (state_data self.now).known) }
     {
         let names = config.signature_algorithms();
         if names.is_empty() || !self.asks {
-            return Ok(());
+            return Ok(Answers::none(self.alloc));
         }
         let payload = extensions_payload(self.alloc, names)?;
-        self.send(config, suite, &payload, sent)
+        Answers::one(self.alloc, payload)
     }
 
     /// Goes on to phase newkeys, with the session identifier, the server's public host key and the keys of
@@ -259,6 +246,19 @@ impl State<'_> {
         self.pending = Some(incoming);
         self.phase = Phase::NewKeys;
         Ok(())
+    }
+}
+
+/// A reply that goes over to new keys after these answers, with what is sent by them.
+pub(crate) fn switching(answers: Answers, keys: Keys, after: Answers) -> Reply
+    ensures { result ≡ record { answers = answers; switch = Some (record { keys = keys; answers = after }) } }
+{
+    Reply {
+        answers,
+        switch: Some(Switch {
+            keys,
+            answers: after,
+        }),
     }
 }
 

@@ -1,18 +1,18 @@
 //! Phase kexinit: the peer's KEXINIT (RFC 4253 section 7.1).
 
-ghost use Rattle.std.specs.Prelude.{◌≡◌, ◌≤◌, ◌++◌, ◌∷◌, ◌&&◌, [], Bool, IfOk, None, OnOk, Some, false, length, not, true};
+ghost use Rattle.std.specs.Prelude.{◌≡◌, ◌≤◌, ◌++◌, ◌∷◌, ◌&&◌, [], IfOk, None, OnOk, Some, false, length, not, true};
 ghost use Rattle.sshmsg.specs.View.{kexinit_data};
 ghost use Rattle.sshpacket.specs.declared.limits.TheConstants.{PACKET_LIMIT};
-ghost use Rattle.sshpacket.specs.KeysData.{KeysData};
 ghost use Rattle.sshneg.specs.declared.side.Side.TheVariants.{Client, Server};
 ghost use Rattle.sshneg.specs.ExchangeEnd.{client_of, offer_in, server_of};
 ghost use Rattle.sshcore.specs.declared.end.Fault.TheVariants as fault;
 ghost use Rattle.sshcore.specs.declared.phase_table.Phase.TheVariants as phase;
 ghost use Rattle.sshcore.specs.Before.{strict_towards, wrong_guess};
-ghost use Rattle.sshcore.specs.Brings.{Gives, IsOngoing, StandsAt};
+ghost use Rattle.sshcore.specs.Brings.{IsOngoing, StandsAt};
 ghost use Rattle.sshcore.specs.EndpointConfig.{config_data, role_of};
 ghost use Rattle.sshcore.specs.EndData.{Failed, Open, by_input, end_data, goes};
 ghost use Rattle.sshcore.specs.Exchange.{choice_with};
+ghost use Rattle.sshcore.specs.ReplyView.{replied};
 ghost use Rattle.sshcore.specs.StateData.{state_data};
 ghost use Rattle.sshcore.specs.Negotiated.{IsNegotiated, sends_init};
 ghost use Rattle.sshcore.specs.Standing.{after_offer};
@@ -23,6 +23,7 @@ use crate::end::Fault;
 use crate::kex_algorithms::Algorithms;
 use crate::payloads::init_payload;
 use crate::phase_table::Phase;
+use crate::reply::Answers;
 use crate::state::State;
 use sshmsg::{KexInit, Message, MsgFault, SSH_MSG_KEXINIT, read};
 use sshneg::{NoCommon, Side, choose, guess_right, strict_of};
@@ -48,33 +49,31 @@ impl State<'_> {
         suite: &S,
         payload: &[u8],
         peer: &KexInit<'_>,
-        sent: &mut Vec<u8>,
-    ) -> Result<(), Memory>
+    ) -> Result<Answers, Memory>
         requires open { end_data self.old.end ≡ Open }
         requires short { length payload.now ≤ PACKET_LIMIT }
         requires read { offer_in payload.now ≡ Some (kexinit_data peer.now) }
-        ensures gives { OnOk result ((strict : Bool) (next : KeysData)
-            → Gives (S.meaning suite.now) (config_data config.now).seed strict next (state_data self.old) (state_data self.new) sent.old.items sent.new.items
-            (kexinit_reply (S.meaning suite.now) (role_of config.now) (config_data config.now) (state_data self.old).known (kexinit_data peer.now))) }
+        ensures gives { IfOk result (λ answers. replied answers (end_data self.new.end) ≡ kexinit_reply (S.meaning suite.now) (role_of config.now) (config_data config.now) (state_data self.old).known (kexinit_data peer.now)) }
         ensures form { OnOk result (IsOngoing (state_data self.new).end
             → (state_data self.new).known.shares ≡ (S.meaning suite.now).share_form (state_data self.new).known.algorithms.kex) }
         ensures carries { OnOk result ((state_data self.new).carried ≡ (state_data self.old).carried) }
         ensures moves { OnOk result (IsOngoing (state_data self.new).end
             → StandsAt (state_data self.new) phase.Exchange (wrong_guess (role_of config.now) (config_data config.now).offer (Some (kexinit_data peer.now)))
             (after_offer (S.meaning suite.now) (role_of config.now) (config_data config.now) (state_data self.old).known payload.now (kexinit_data peer.now))) }
+        ensures unsent { OnOk result ((state_data self.new).sending ≡ (state_data self.old).sending) }
         ensures kept { OnOk result (by_input (end_data self.new.end) ≡ true) }
     {
         let strict = is_strict(config, peer);
         if strict && !self.first {
-            return self.fail(config, suite, Fault::Strict(SSH_MSG_KEXINIT), sent);
+            return self.fail(Fault::Strict(SSH_MSG_KEXINIT));
         }
         match negotiate(self.alloc, config, suite, peer)? {
-            Err(field) => self.fail(config, suite, Fault::NoCommon(field), sent),
+            Err(field) => self.fail(Fault::NoCommon(field)),
             Ok(negotiated) => {
                 self.strict = strict;
                 self.guess = peer.first_kex_packet_follows && !negotiated.right;
                 let asks = asks_for_extensions(peer);
-                self.open_exchange(config, suite, payload, asks, negotiated, sent)
+                self.open_exchange(config, suite, payload, asks, negotiated)
             }
         }
     }
@@ -87,51 +86,42 @@ impl State<'_> {
         payload: &[u8],
         asks: bool,
         negotiated: Negotiated,
-        sent: &mut Vec<u8>,
-    ) -> Result<(), Memory>
+    ) -> Result<Answers, Memory>
         requires open { end_data self.old.end ≡ Open }
         requires short { length payload.now ≤ PACKET_LIMIT }
         requires asks { asks ≡ asks_for_extensions payload.now }
-        ensures gives { OnOk result ((strict : Bool) (next : KeysData)
-            → Gives (S.meaning suite.now) (config_data config.now).seed strict next (state_data self.old) (state_data self.new) sent.old.items sent.new.items
-            (goes (sends_init (S.meaning suite.now) (role_of config.now) (config_data config.now) negotiated.right negotiated.algorithms.kex))) }
+        ensures gives { IfOk result (λ answers. replied answers (end_data self.new.end) ≡ goes (sends_init (S.meaning suite.now) (role_of config.now) (config_data config.now) negotiated.right negotiated.algorithms.kex)) }
         ensures stays { OnOk result (state_data self.new ≡ record (state_data self.old) {
           phase = phase.Exchange;
-          sending = (state_data self.new).sending;
           known = record (state_data self.old).known { kexinit = payload.now; algorithms = negotiated.algorithms; shares = negotiated.shares; first = false };
         }) }
     {
         let kexinit = Vec::from_slice(self.alloc, payload)?;
-        self.send_init(config, suite, &negotiated, sent)?;
+        let answers = init_answers(self.alloc, config, suite, &negotiated)?;
         self.kexinit = kexinit;
         self.asks = asks;
         self.shares = negotiated.shares;
         self.algorithms = Some(negotiated.algorithms);
         self.phase = Phase::Exchange;
         self.first = false;
-        Ok(())
+        Ok(answers)
     }
+}
 
-    /// Sends a client's share, unless a right guess has it.
-    fn send_init<S: Suite>(
-        &mut self,
-        config: &Config<'_>,
-        suite: &S,
-        negotiated: &Negotiated,
-        sent: &mut Vec<u8>,
-    ) -> Result<(), Memory>
-        requires open { end_data self.old.end ≡ Open }
-        ensures gives { OnOk result ((strict : Bool) (next : KeysData)
-            → Gives (S.meaning suite.now) (config_data config.now).seed strict next (state_data self.old) (state_data self.new) sent.old.items sent.new.items
-            (goes (sends_init (S.meaning suite.now) (role_of config.now) (config_data config.now) negotiated.now.right negotiated.now.algorithms.kex))) }
-        ensures stays { OnOk result (state_data self.new ≡ record (state_data self.old) { sending = (state_data self.new).sending }) }
-    {
-        if !opens(config, negotiated.right) {
-            return Ok(());
-        }
-        let init = init_payload(self.alloc, config, suite, negotiated.algorithms.kex())?;
-        self.send(config, suite, &init, sent)
+/// A client's share, unless a right guess has it.
+fn init_answers<S: Suite>(
+    alloc: Global,
+    config: &Config<'_>,
+    suite: &S,
+    negotiated: &Negotiated,
+) -> Result<Answers, Memory>
+    ensures { IfOk result (λ answers. answers ≡ sends_init (S.meaning suite.now) (role_of config.now) (config_data config.now) negotiated.now.right negotiated.now.algorithms.kex) }
+{
+    if !opens(config, negotiated.right) {
+        return Ok(Answers::none(alloc));
     }
+    let init = init_payload(alloc, config, suite, negotiated.algorithms.kex())?;
+    Answers::one(alloc, init)
 }
 
 /// Whether the endpoint is strict towards this peer (OpenSSH PROTOCOL section 1.10).

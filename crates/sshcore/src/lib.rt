@@ -78,6 +78,7 @@ mod record_parts;
 mod record_reading;
 mod record_waiting;
 mod record_writing;
+mod reply;
 mod seen;
 mod sending;
 mod session;

@@ -1,10 +1,8 @@
-//! What an endpoint keeps between two packets, and what it sends.
+//! What an endpoint keeps between two packets.
 
-ghost use Rattle.std.specs.Prelude.{◌≡◌, ◌<◌, ◌≤◌, ◌++◌, None, OnOk, Some, false, is_some, length, map, true};
+ghost use Rattle.std.specs.Prelude.{◌≡◌, ◌≤◌, None, Some, false, is_some, length, map, true};
 ghost use Rattle.std.specs.List.{AllByRecursion, AllByRecursion-prop};
-ghost use Rattle.sshwire.specs.declared.limits.TheConstants.{LINE_LIMIT, PAYLOAD_LIMIT};
-ghost use Rattle.sshmsg.specs.MessageData as content;
-ghost use Rattle.sshmsg.specs.Written.{written_message};
+ghost use Rattle.sshwire.specs.declared.limits.TheConstants.{LINE_LIMIT};
 ghost use Rattle.sshpacket.specs.declared.limits.TheConstants.{DIGEST_LIMIT, PACKET_LIMIT};
 ghost use Rattle.sshcore.specs.declared.config_parts.TheConstants.{TRIES_LIMIT};
 ghost use Rattle.sshcore.specs.AttemptProps.{IsAttempt-prop};
@@ -18,12 +16,9 @@ use crate::config::Config;
 use crate::config_parts::Attempt;
 use crate::end::End;
 use crate::kex_algorithms::Algorithms;
-use crate::payloads::payload_of;
 use crate::phase_table::Phase;
 use crate::session::UserKey;
-use sshmsg::Message;
-use sshpacket::{Keys, ShareForm, Suite, write_clear, write_next};
-use sshwire::Memory;
+use sshpacket::{Keys, ShareForm};
 use std::alloc::Global;
 
 /// Which of the methods that can be required are completed, and for whom.
@@ -93,10 +88,8 @@ pub(crate) struct State<'a> {
 
 impl<'a> State<'a> {
     ghost use Rattle.sshcore.specs.EndpointConfig.{config_data};
-    ghost use Rattle.sshcore.specs.Directions.{spelled_by};
     ghost use Rattle.sshcore.specs.Paused.{with_left};
     ghost use Rattle.sshcore.specs.StateData.{begun, left_of, state_data};
-    ghost use Rattle.sshcore.specs.Output.{with_packet, with_newkeys};
     ghost use Rattle.sshcore.specs.Plan.{is_waiting};
 
     /// Before any byte.
@@ -178,61 +171,5 @@ impl<'a> State<'a> {
             None => false,
             Some(attempt) => !self.confirmed && attempt.credential.asks(),
         }
-    }
-
-    /// Sends a payload in a packet with the keys and the number at hand.
-    pub(crate) fn send<S: Suite>(
-        &mut self,
-        config: &Config<'_>,
-        suite: &S,
-        payload: &[u8],
-        sent: &mut Vec<u8>,
-    ) -> Result<(), Memory>
-        requires some { 0 < length payload.now }
-        requires short { length payload.now ≤ PAYLOAD_LIMIT }
-        ensures spells { OnOk result (sent.new.items ≡ sent.old.items
-            ++ spelled_by (S.meaning suite.now) (state_data self.old).sending.keys (config_data config.now).seed (state_data self.old).sending.number payload.now) }
-        ensures counts { OnOk result (state_data self.new ≡ record (state_data self.old) { sending = with_packet (S.meaning suite.now) payload.now (state_data self.old).sending }) }
-    {
-        let seed = config.padding_seed();
-        match &mut self.keys_out {
-            None => write_clear(self.alloc, suite, self.number_out, payload, seed, sent)?,
-            Some(keys) => {
-                write_next(
-                    self.alloc,
-                    suite,
-                    keys,
-                    self.number_out,
-                    payload,
-                    seed,
-                    sent,
-                )?
-            }
-        }
-        self.number_out = self.number_out.wrapping_add(1);
-        Ok(())
-    }
-
-    /// Sends NEWKEYS; what follows is sent with these keys (RFC 4253 section 7.3), from number 0 where the
-    /// endpoint is strict (OpenSSH PROTOCOL section 1.10).
-    pub(crate) fn send_new_keys<S: Suite>(
-        &mut self,
-        config: &Config<'_>,
-        suite: &S,
-        keys: Keys,
-        sent: &mut Vec<u8>,
-    ) -> Result<(), Memory>
-        ensures spells { OnOk result (sent.new.items ≡ sent.old.items
-            ++ spelled_by (S.meaning suite.now) (state_data self.old).sending.keys (config_data config.now).seed (state_data self.old).sending.number (written_message content.NewKeys)) }
-        ensures switches { OnOk result (state_data self.new ≡ record (state_data self.old) { sending = with_newkeys (state_data self.old).known.strict keys (state_data self.old).sending }) }
-    {
-        sshmsg::lengths_law();
-        let payload = payload_of(self.alloc, &Message::NewKeys)?;
-        self.send(config, suite, &payload, sent)?;
-        self.keys_out = Some(keys);
-        if self.strict {
-            self.number_out = 0;
-        }
-        Ok(())
     }
 }

@@ -1,14 +1,11 @@
-use Rattle.std.proofs.Common.{inl, inr}
+use Rattle.std.proofs.Common.{sym, ap, ◌∙◌}
+use Rattle.std.proofs.lemmas.Result.{on_ok_weaker}
+use Rattle.sshcore.specs.EndData.{fails}
+use Rattle.sshcore.specs.StateData.{StateData, state_data}
+use Rattle.sshcore.proofs.GivesLemmas.{gives_by, gives_from}
 use Rattle.sshcore.proofs.input.fail_packet.Goals as goal
 
-pub returns-in-Length-clause-gives : goal.returns-in-Length-clause-gives
-returns-in-Length-clause-gives g c = rw c.in-Length.is c.fail.ensures.gives
-
-pub returns-in-Padding-clause-gives : goal.returns-in-Padding-clause-gives
-returns-in-Padding-clause-gives g c = elim c.in-Padding.is [
-  | inl e ↦ rw e c.fail-in-Padding.ensures.gives
-  | inr e ↦ rw e c.fail-in-Padding.ensures.gives
-]
-
-pub returns-in-Mac-clause-gives : goal.returns-in-Mac-clause-gives
-returns-in-Mac-clause-gives g c = rw c.in-Mac.is c.fail-in-Mac.ensures.gives
+pub returns-clause-gives : goal.returns-clause-gives
+returns-clause-gives g c = on_ok_weaker c.send_answers.result (λ given strict next.
+    gives_by _ _ strict next _ _ _ _ _ _ (c.in_ok-answers.ensures.gives ∙ ap fails c.in-Some.ensures.0)
+    (gives_from _ _ strict next (state_data c.fail.new.self) (state_data c.args.state.now) _ _ _ _ (sym (ap (λ (k : StateData). k.sending) c.in_ok-answers.ensures.stays)) (given strict next))) c.send_answers.ensures.gives

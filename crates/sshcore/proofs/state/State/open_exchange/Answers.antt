@@ -1,10 +1,9 @@
-use Rattle.std.proofs.Common.{refl}
-use Rattle.sshcore.specs.EndData.{Open}
+use Rattle.std.proofs.Common.{ap, ◌∙◌}
+use Rattle.sshpacket.specs.Stream.{Units}
+use Rattle.sshcore.specs.ReplyView.{replied}
 use Rattle.sshcore.specs.StateData.{state_data}
-use Rattle.sshcore.proofs.GivesLemmas.{gives_moved}
 use Rattle.sshcore.proofs.state.State.open_exchange.Goals as goal
 
 pub returns-clause-gives : goal.returns-clause-gives
-returns-clause-gives g c = λ strict next.
-    let init = c.in_ok-send_init.ensures.gives strict next in
-    gives_moved _ _ strict next (state_data c.args.self.now) (state_data c.send_init.new.self) _ _ _ _ _ Open Open refl refl init.ends init
+returns-clause-gives g c =
+    ap (λ (a : Units). replied a (state_data c.args.self.now).end) c.in_ok-answers.ensures ∙ ap (replied _) c.requires.open

@@ -1,11 +1,9 @@
-use Rattle.std.proofs.Common.{List, refl, ap, ◌∙◌}
-use Rattle.std.proofs.lemmas.Result.{on_ok_weaker}
+use Rattle.std.proofs.Common.{List, ap, ◌∙◌}
+use Rattle.std.proofs.lemmas.Result.{IfOk-weaker}
 use Rattle.sshcore.specs.Attempts.{attempt_step}
 use Rattle.sshcore.specs.ConfigParts.{AttemptData}
-use Rattle.sshcore.specs.StateData.{state_data}
 use Rattle.sshcore.specs.Step.{asked_in, settled}
 use Rattle.sshcore.proofs.AttemptLemmas.{left_next, next_accepted}
-use Rattle.sshcore.proofs.GivesLemmas.{gives_by, gives_from}
 use Rattle.sshcore.proofs.state.State.receive_failure.Goals as goal
 
 pub invariant_of-self-clause-accepted : goal.invariant_of-self-clause-accepted
@@ -16,6 +14,5 @@ make_attempt-requires-clause-calm g c =
     ap (λ (l : List AttemptData). asked_in (attempt_step (g.S.Suite.meaning c.args.suite.now) c.args.self.now.session.items l)) (c.next_attempts-self.ensures ∙ left_next c.args.self.now.confirmed c.args.methods.now _) ∙ c.requires.calm
 
 pub returns-clause-gives : goal.returns-clause-gives
-returns-clause-gives g c = on_ok_weaker c.make_attempt.result (λ given d strict next.
-    gives_by _ _ strict next _ _ _ _ _ _ (ap (λ (l : List AttemptData). settled d (attempt_step (g.S.Suite.meaning c.args.suite.now) c.args.self.now.session.items l)) (c.next_attempts-self.ensures ∙ left_next c.args.self.now.confirmed c.args.methods.now _))
-    (gives_from _ _ strict next _ (state_data c.args.self.now) _ _ _ _ refl (given d strict next))) c.make_attempt.ensures.gives
+returns-clause-gives g c = IfOk-weaker c.make_attempt.result _ _ (λ answers given d.
+    given d ∙ ap (λ (l : List AttemptData). settled d (attempt_step (g.S.Suite.meaning c.args.suite.now) c.args.self.now.session.items l)) (c.next_attempts-self.ensures ∙ left_next c.args.self.now.confirmed c.args.methods.now _)) c.make_attempt.ensures.gives

@@ -1,5 +1,5 @@
 use Rattle.std.proofs.Common.{◌≡◌, List, ℕ, Some, true, false, rules, sym, subst, ◌∙◌}
-use Rattle.std.proofs.lemmas.Result.{on_ok_weaker}
+use Rattle.std.proofs.lemmas.Result.{IfOk-weaker}
 use Rattle.sshneg.specs.declared.side.Side.{Side}
 use Rattle.sshneg.specs.declared.side.Side.TheVariants.{Server}
 use Rattle.sshpacket.specs.Suite.{response_data}
@@ -20,9 +20,9 @@ returns-then-not-holds-clause-receives g c =
     let old = state_data c.args.self.now in
     let config = config_data c.args.config.now in
     let off : m.holds old.known.algorithms.host_key (secret_of config.host_keys old.known.algorithms.host_key) ≡ false = search rules in
-    on_ok_weaker c.fail.result
-    (λ gives d message read calm form. receives_failure m Server config old (state_data c.fail.new.self) c.args.sent.now.items c.fail.new.sent.items message fault.Exchange _ (settled_unheld m config old.known message c.args.share.now read d off calm) gives)
-    c.fail.ensures.gives
+    IfOk-weaker c.fail_reply.result _ _
+    (λ made failed d message read calm form. receives_failure m Server config old (state_data c.fail_reply.new.self) made message fault.Exchange _ (settled_unheld m config old.known message c.args.share.now read d off calm) failed)
+    c.fail_reply.ensures.fails
 
 pub returns-in-None-clause-receives : goal.returns-in-None-clause-receives
 returns-in-None-clause-receives g c =
@@ -30,9 +30,9 @@ returns-in-None-clause-receives g c =
     let old = state_data c.args.self.now in
     let config = config_data c.args.config.now in
     let none = none_prepared m (role_of c.args.config.now) config old.known c.args.share.now c.in_ok-prepare_init.field-0 c.in-None.is c.in_ok-prepare_init.ensures in
-    on_ok_weaker c.fail-in-None.result
-    (λ gives d message read calm form. receives_failure m Server config old (state_data c.fail-in-None.new.self) c.args.sent.now.items c.fail-in-None.new.sent.items message fault.Exchange _ (settled_fails m config old.known message c.args.share.now read d none) gives)
-    c.fail-in-None.ensures.gives
+    IfOk-weaker c.fail_reply-in-None.result _ _
+    (λ made failed d message read calm form. receives_failure m Server config old (state_data c.fail_reply-in-None.new.self) made message fault.Exchange _ (settled_fails m config old.known message c.args.share.now read d none) failed)
+    c.fail_reply-in-None.ensures.fails
 
 pub returns-in_ok-signature-in-Some-clause-receives : goal.returns-in_ok-signature-in-Some-clause-receives
 returns-in_ok-signature-in-Some-clause-receives g c =
@@ -42,12 +42,12 @@ returns-in_ok-signature-in-Some-clause-receives g c =
     let config = config_data c.args.config.now in
     let p = c.in-Some.prepared in
     let is = prepared_is m role config old.known c.args.share.now c.in_ok-prepare_init.field-0 p c.in-Some.is c.in_ok-prepare_init.ensures in
-    on_ok_weaker c.answer_init.result
-    (λ receives d message read calm form.
+    IfOk-weaker c.answer_init.result _ _
+    (λ made receives d message read calm form.
     let held : m.holds old.known.algorithms.host_key _ ≡ true = calm_held m config old.known message c.args.share.now read (response_data p.response) is.response calm in
-    subst (λ (r : Reply). ReceivesExchange m Server config old (state_data c.answer_init.new.self) c.args.sent.now.items c.answer_init.new.sent.items message r)
+    subst (λ (r : Reply). ReceivesExchange m Server config old (state_data c.answer_init.new.self) made message r)
     (sym (settled_held m config old.known message c.args.share.now read d (response_data p.response) p.hash.items is.response held (subst (λ (r : Side). p.hash.items ≡ exchange_hash m old.known.algorithms.kex (exchanged r config old.known (server_shares m config old.known c.args.share.now (response_data p.response)))) c.requires.server is.hash)))
-    (subst (λ (l : List ℕ). ReceivesExchange m Server config old (state_data c.answer_init.new.self) c.args.sent.now.items c.answer_init.new.sent.items message
+    (subst (λ (l : List ℕ). ReceivesExchange m Server config old (state_data c.answer_init.new.self) made message
     (signed_reply config old.known (exchange_of_message m Server config old.known message) (Some l))) (c.deref.ensures.value ∙ c.in_ok-signature-in-Some.ensures.signed)
     (receives message c.args.share.now read is form)))
     c.answer_init.ensures.receives

@@ -1,11 +1,10 @@
 use Rattle.std.proofs.Common.{◌≡◌, Bool, true, false, Some, refl, sym, ap, ◌∙◌}
 use Rattle.std.specs.Prelude.{◌&&◌, not}
-use Rattle.std.proofs.lemmas.Result.{on_ok_weaker}
+use Rattle.std.proofs.lemmas.Result.{IfOk-weaker}
 use Rattle.sshmsg.specs.View.{kexinit_data}
 use Rattle.sshcore.specs.Before.{strict_towards}
 use Rattle.sshcore.specs.EndpointConfig.{config_data, role_of}
 use Rattle.sshcore.specs.StateData.{state_data}
-use Rattle.sshcore.proofs.GivesLemmas.{gives_by, gives_moved}
 use Rattle.sshcore.proofs.KexInitLemmas.{chosen, not_chosen, strictly_refused}
 use Rattle.sshcore.proofs.state.State.receive_kexinit.Goals as goal
 use Rattle.sshcore.proofs.state.State.receive_kexinit.Goals.{else-strict-via-then-strict+else-not-self, else-strict-via-else-strict}
@@ -19,10 +18,9 @@ strict_off : (b first : Bool) → b ≡ false → (b && not first) ≡ false
 strict_off b first e = ap (λ (x : Bool). x && not first) e
 
 pub returns-then-not-self-clause-gives : goal.returns-then-not-self-clause-gives
-returns-then-not-self-clause-gives g c = on_ok_weaker c.fail.result (λ given strict next.
-    gives_by _ _ strict next _ _ _ _ _ _
-    (strictly_refused (g.S.Suite.meaning c.args.suite.now) (role_of c.args.config.now) (config_data c.args.config.now) (state_data c.args.self.now).known (kexinit_data c.args.peer.now)
-    (sym c.is_strict-strict.ensures ∙ c.if-strict.true) c.if-not-self.true) (given strict next)) c.fail.ensures.gives
+returns-then-not-self-clause-gives g c = IfOk-weaker c.fail.result _ _ (λ answers given.
+    given ∙ (strictly_refused (g.S.Suite.meaning c.args.suite.now) (role_of c.args.config.now) (config_data c.args.config.now) (state_data c.args.self.now).known (kexinit_data c.args.peer.now)
+    (sym c.is_strict-strict.ensures ∙ c.if-strict.true) c.if-not-self.true)) c.fail.ensures.gives
 
 pub returns-in-Err-clause-gives : goal.returns-in-Err-clause-gives
 returns-in-Err-clause-gives g c =
@@ -31,10 +29,9 @@ returns-in-Err-clause-gives g c =
       | else-strict-via-then-strict+else-not-self w ↦ first_on (strict_towards (role_of c.args.config.now) (config_data c.args.config.now).strict (Some (kexinit_data c.args.peer.now))) c.args.self.now.first w.if-not-self.false
       | else-strict-via-else-strict w ↦ strict_off (strict_towards (role_of c.args.config.now) (config_data c.args.config.now).strict (Some (kexinit_data c.args.peer.now))) c.args.self.now.first (sym c.is_strict-strict.ensures ∙ w.if-strict.false)
     ] in
-    on_ok_weaker c.fail-in-Err.result (λ given strict next.
-    gives_by _ _ strict next _ _ _ _ _ _
-    (not_chosen (g.S.Suite.meaning c.args.suite.now) (role_of c.args.config.now) (config_data c.args.config.now) (state_data c.args.self.now).known (kexinit_data c.args.peer.now) off
-    c.in_ok-field.field-0 c.in-Err.field c.in_ok-field.ensures c.in-Err.is) (given strict next)) c.fail-in-Err.ensures.gives
+    IfOk-weaker c.fail-in-Err.result _ _ (λ answers given.
+    given ∙ (not_chosen (g.S.Suite.meaning c.args.suite.now) (role_of c.args.config.now) (config_data c.args.config.now) (state_data c.args.self.now).known (kexinit_data c.args.peer.now) off
+    c.in_ok-field.field-0 c.in-Err.field c.in_ok-field.ensures c.in-Err.is)) c.fail-in-Err.ensures.gives
 
 pub returns-after-peer-clause-gives : goal.returns-after-peer-clause-gives
 returns-after-peer-clause-gives g c =
@@ -43,8 +40,6 @@ returns-after-peer-clause-gives g c =
       | else-strict-via-then-strict+else-not-self w ↦ first_on (strict_towards (role_of c.args.config.now) (config_data c.args.config.now).strict (Some (kexinit_data c.args.peer.now))) c.args.self.now.first w.if-not-self.false
       | else-strict-via-else-strict w ↦ strict_off (strict_towards (role_of c.args.config.now) (config_data c.args.config.now).strict (Some (kexinit_data c.args.peer.now))) c.args.self.now.first (sym c.is_strict-strict.ensures ∙ w.if-strict.false)
     ] in
-    on_ok_weaker c.open_exchange.result (λ given strict next.
-    gives_by _ _ strict next _ _ _ _ _ _
-    (chosen (g.S.Suite.meaning c.args.suite.now) (role_of c.args.config.now) (config_data c.args.config.now) (state_data c.args.self.now).known (kexinit_data c.args.peer.now) off
-    c.in_ok-field.field-0 c.in-Ok.negotiated c.in_ok-field.ensures c.in-Ok.is)
-    (gives_moved _ _ strict next _ _ _ _ _ _ _ _ _ refl refl (given strict next).ends (given strict next))) c.open_exchange.ensures.gives
+    IfOk-weaker c.open_exchange.result _ _ (λ answers given.
+    given ∙ (chosen (g.S.Suite.meaning c.args.suite.now) (role_of c.args.config.now) (config_data c.args.config.now) (state_data c.args.self.now).known (kexinit_data c.args.peer.now) off
+    c.in_ok-field.field-0 c.in-Ok.negotiated c.in_ok-field.ensures c.in-Ok.is)) c.open_exchange.ensures.gives

@@ -1,5 +1,5 @@
 use Rattle.std.proofs.Common.{◌≡◌, ◌∙◌, List, None, Some, ap, rules, ℕ}
-use Rattle.std.proofs.lemmas.Result.{on_ok_weaker}
+use Rattle.std.proofs.lemmas.Result.{IfOk-weaker}
 use Rattle.sshcore.specs.EndpointConfig.{config_data, role_of}
 use Rattle.sshcore.specs.StateData.{state_data}
 use Rattle.sshcore.proofs.ExchangeLemmas.{made_none, made_some, reply_distrusts, reply_fails, reply_judged, shared_short}
@@ -9,10 +9,10 @@ pub returns-then-not-trusted-clause-receives : goal.returns-then-not-trusted-cla
 returns-then-not-trusted-clause-receives g c =
     let old = state_data c.args.self.now in
     let host_key : List ℕ = c.args.reply.now.host_key.now in
-    on_ok_weaker c.fail.result
-    (λ gives d message decided read told form. reply_distrusts (g.S.Suite.meaning c.args.suite.now) d (config_data c.args.config.now) old (state_data c.fail.new.self) c.args.sent.now.items
-    c.fail.new.sent.items message host_key c.args.reply.now.share.now c.args.reply.now.signature.now read told (decided ∙ c.if-not-trusted.true) gives)
-    c.fail.ensures.gives
+    IfOk-weaker c.fail_reply.result _ _
+    (λ made failed d message decided read told form. reply_distrusts (g.S.Suite.meaning c.args.suite.now) d (config_data c.args.config.now) old (state_data c.fail_reply.new.self) made
+    message host_key c.args.reply.now.share.now c.args.reply.now.signature.now read told (decided ∙ c.if-not-trusted.true) failed)
+    c.fail_reply.ensures.fails
 
 pub judge_reply-requires-clause-shared : goal.judge_reply-requires-clause-shared
 judge_reply-requires-clause-shared g c =
@@ -38,10 +38,10 @@ returns-in-None-clause-receives g c =
     let none : m.shared old.known.algorithms.kex random share ≡ None =
     made_none (λ v. v.items) (λ (k r : List ℕ). m.shared k r share) c.kex.result.now old.known.algorithms.kex c.exchange_random-random.result.now random c.in_ok-shared.field-0
     (c.kex.ensures.kex ∙ ap (λ a. a.kex) names) c.exchange_random-random.ensures.random c.in_ok-shared.ensures c.in-None.is in
-    on_ok_weaker c.fail-in-None.result
-    (λ gives d message decided read told form. reply_fails m d (config_data c.args.config.now) old (state_data c.fail-in-None.new.self) c.args.sent.now.items c.fail-in-None.new.sent.items
-    message host_key share c.args.reply.now.signature.now read told (decided ∙ c.if-not-trusted.false) none gives)
-    c.fail-in-None.ensures.gives
+    IfOk-weaker c.fail_reply-in-None.result _ _
+    (λ made failed d message decided read told form. reply_fails m d (config_data c.args.config.now) old (state_data c.fail_reply-in-None.new.self) made
+    message host_key share c.args.reply.now.signature.now read told (decided ∙ c.if-not-trusted.false) none failed)
+    c.fail_reply-in-None.ensures.fails
 
 pub returns-in-Some-clause-receives : goal.returns-in-Some-clause-receives
 returns-in-Some-clause-receives g c =
@@ -54,8 +54,7 @@ returns-in-Some-clause-receives g c =
     let given : m.shared old.known.algorithms.kex random share ≡ Some c.in-Some.shared.items =
     made_some (λ v. v.items) (λ (k r : List ℕ). m.shared k r share) c.kex.result.now old.known.algorithms.kex c.exchange_random-random.result.now random c.in_ok-shared.field-0
     c.in-Some.shared (c.kex.ensures.kex ∙ ap (λ a. a.kex) names) c.exchange_random-random.ensures.random c.in_ok-shared.ensures c.in-Some.is in
-    on_ok_weaker c.judge_reply.result
-    (λ judged d message decided read told form. reply_judged m d (config_data c.args.config.now) old (state_data c.judge_reply.new.self) c.args.sent.now.items
-    c.judge_reply.new.sent.items message host_key share c.args.reply.now.signature.now read told (role_of c.args.config.now) c.deref.result.now
+    IfOk-weaker c.judge_reply.result _ _
+    (λ made judged d message decided read told form. reply_judged m d (config_data c.args.config.now) old (state_data c.judge_reply.new.self) made message host_key share c.args.reply.now.signature.now read told (role_of c.args.config.now) c.deref.result.now
     c.in-Some.shared.items c.requires.client c.deref.ensures.value (decided ∙ c.if-not-trusted.false) given c.requires.open c.requires.at form judged)
     c.judge_reply.ensures.judges

@@ -1,16 +1,17 @@
-use Rattle.std.proofs.Common.{◌≡◌, ℕ, Bool, true, false, List, [], ◌∷◌, refl, cond}
+use Rattle.std.proofs.Common.{◌≡◌, ℕ, Bool, true, false, List, ◌∷◌, refl, cond, ap, ◌∙◌}
 use Rattle.std.specs.Prelude.{not}
 use Rattle.std.specs.Str.{bytes_eq}
-use Rattle.std.proofs.lemmas.Result.{on_ok_weaker}
+use Rattle.std.proofs.lemmas.Result.{IfOk-weaker}
 use Rattle.sshmsg.specs.MessageData.{ServiceAccept}
 use Rattle.sshmsg.specs.Written.{written_message}
 use Rattle.sshcore.specs.declared.end.Fault.TheVariants as fault
 use Rattle.sshcore.specs.EndpointConfig.{config_data}
-use Rattle.sshcore.specs.EndData.{Open, Reply, fails, goes}
+use Rattle.sshpacket.specs.Stream.{Units}
+use Rattle.sshcore.specs.EndData.{Reply, fails, goes}
+use Rattle.sshcore.specs.ReplyView.{replied}
 use Rattle.sshcore.specs.StateData.{state_data}
 use Rattle.sshcore.specs.EndpointParts.{ConfigData}
 use Rattle.sshcore.specs.Work.{banner_by, service_reply, userauth}
-use Rattle.sshcore.proofs.GivesLemmas.{gives_by, gives_from, gives_then}
 use Rattle.sshcore.proofs.state.State.receive_service_request.Goals as goal
 
 -- the reply where the service isn't the one of authentication, and where it is
@@ -34,13 +35,11 @@ unfolding accepted
 accepts config service e = on (bytes_eq service userauth) (accepted config) (fails fault.Service) e
 
 pub returns-then-ne-clause-gives : goal.returns-then-ne-clause-gives
-returns-then-ne-clause-gives g c = on_ok_weaker c.fail.result (λ given strict next.
-    gives_by _ _ strict next _ _ _ _ _ _ (refuses (config_data c.args.config.now) c.args.service.now c.if-ne.ensures) (given strict next)) c.fail.ensures.gives
+returns-then-ne-clause-gives c = IfOk-weaker c.fail.result _ _ (λ answers given.
+    given ∙ refuses (config_data c.args.config.now) c.args.service.now c.if-ne.ensures) c.fail.ensures.gives
 
 pub returns-clause-gives : goal.returns-clause-gives
-unfolding written_message
-returns-clause-gives g c = on_ok_weaker c.send_banner.result (λ given strict next.
-    gives_by _ _ strict next _ _ _ _ _ _ (accepts (config_data c.args.config.now) c.args.service.now c.if-ne.ensures)
-    (gives_then _ _ strict next (state_data c.args.self.now) (state_data c.tell.new.self) _ _ _ _ (written_message (ServiceAccept userauth) ∷ []) (banner_by (config_data c.args.config.now).banner) Open Open
-    (c.in_ok-tell.ensures.gives refl strict next)
-    (gives_from _ _ strict next _ (state_data c.tell.new.self) _ _ _ _ refl (given strict next)))) c.send_banner.ensures.gives
+returns-clause-gives c =
+    ap (λ (a : Units). replied a (state_data c.args.self.now).end) c.in_ok-answers.ensures
+    ∙ (ap (replied (written_message (ServiceAccept userauth) ∷ banner_by (config_data c.args.config.now).banner)) c.requires.open
+    ∙ accepts (config_data c.args.config.now) c.args.service.now c.if-ne.ensures)

@@ -1,5 +1,5 @@
 use Rattle.std.proofs.Common.{◌≡◌, ℕ, ◌+◌, ◌≤◌, List, None, length, Ok, sym, subst, ap, ◌∙◌, arith}
-use Rattle.std.proofs.lemmas.Result.{on_ok_weaker}
+use Rattle.std.proofs.lemmas.Result.{IfOk-weaker}
 use Rattle.sshmsg.specs.MessageData as content
 use Rattle.sshmsg.specs.MessageData.{MessageData}
 use Rattle.sshmsg.specs.Lengths.{payload_length}
@@ -35,12 +35,12 @@ receive_init-requires-clause-short g c =
     let short : length c.args.payload.now ≤ PACKET_LIMIT = c.requires.short in
     omega arith
 
-pub returns-in-KexdhInit-clause-works : goal.returns-in-KexdhInit-clause-works
-returns-in-KexdhInit-clause-works g c =
+pub returns-in-KexdhInit-clause-comes : goal.returns-in-KexdhInit-clause-comes
+returns-in-KexdhInit-clause-comes g c =
     let has = has_place c.messages_law.ensures.complete c.numbers_law.ensures.message_number c.numbers_law.ensures.alike (role_of c.args.config.now) (state_data c.args.self.now) c.args.payload.now (message_data c.args.message.now) c.requires.reads c.requires.spelled in
     let is : message_data c.args.message.now ≡ content.KexdhInit c.in-KexdhInit.e = ap message_data c.in-KexdhInit.is in
-    on_ok_weaker c.receive_init.result (λ given d form.
-    works.init_works (setup_of (g.S.Suite.meaning c.args.suite.now) d c.args.config.now) _ _ _ _ _ _ has (ap number_of is) (works.kexdh_init (setup_of (g.S.Suite.meaning c.args.suite.now) d c.args.config.now) _ _ c.in-KexdhInit.e is)
+    IfOk-weaker c.receive_init.result _ _ (λ made given d form.
+    works.init_works (setup_of (g.S.Suite.meaning c.args.suite.now) d c.args.config.now) _ _ _ made _ has (ap number_of is) (works.kexdh_init (setup_of (g.S.Suite.meaning c.args.suite.now) d c.args.config.now) _ _ c.in-KexdhInit.e is)
     (given d (message_data c.args.message.now) (ap (λ (x : MessageData). share_read (Ok x)) is ∙ sym c.body.ensures.body) (subst (λ (r : Side). asked_in (init_step (g.S.Suite.meaning c.args.suite.now) r (config_data c.args.config.now) (state_data c.args.self.now).known (message_data c.args.message.now)) ≡ None) (works.at_init _ _ _ _ has (ap number_of is)).side_is
     (ap asked_in (sym (step_kexdh_init (g.S.Suite.meaning c.args.suite.now) (role_of c.args.config.now) (config_data c.args.config.now) (state_data c.args.self.now).known (message_data c.args.message.now) c.in-KexdhInit.e is)) ∙ c.requires.calm)) form)) c.receive_init.ensures.receives
 
@@ -61,12 +61,12 @@ receive_init-requires-in-KexEcdhInit-clause-short g c =
     let short : length c.args.payload.now ≤ PACKET_LIMIT = c.requires.short in
     omega arith
 
-pub returns-in-KexEcdhInit-clause-works : goal.returns-in-KexEcdhInit-clause-works
-returns-in-KexEcdhInit-clause-works g c =
+pub returns-in-KexEcdhInit-clause-comes : goal.returns-in-KexEcdhInit-clause-comes
+returns-in-KexEcdhInit-clause-comes g c =
     let has = has_place c.messages_law.ensures.complete c.numbers_law.ensures.message_number c.numbers_law.ensures.alike (role_of c.args.config.now) (state_data c.args.self.now) c.args.payload.now (message_data c.args.message.now) c.requires.reads c.requires.spelled in
     let is : message_data c.args.message.now ≡ content.KexEcdhInit c.in-KexEcdhInit.client_share.now = ap message_data c.in-KexEcdhInit.is in
-    on_ok_weaker c.receive_init-in-KexEcdhInit.result (λ given d form.
-    works.init_works (setup_of (g.S.Suite.meaning c.args.suite.now) d c.args.config.now) _ _ _ _ _ _ has (ap number_of is) (works.kex_ecdh_init (setup_of (g.S.Suite.meaning c.args.suite.now) d c.args.config.now) _ _ c.in-KexEcdhInit.client_share.now is)
+    IfOk-weaker c.receive_init-in-KexEcdhInit.result _ _ (λ made given d form.
+    works.init_works (setup_of (g.S.Suite.meaning c.args.suite.now) d c.args.config.now) _ _ _ made _ has (ap number_of is) (works.kex_ecdh_init (setup_of (g.S.Suite.meaning c.args.suite.now) d c.args.config.now) _ _ c.in-KexEcdhInit.client_share.now is)
     (given d (message_data c.args.message.now) (ap (λ (x : MessageData). share_read (Ok x)) is) (subst (λ (r : Side). asked_in (init_step (g.S.Suite.meaning c.args.suite.now) r (config_data c.args.config.now) (state_data c.args.self.now).known (message_data c.args.message.now)) ≡ None) (works.at_init _ _ _ _ has (ap number_of is)).side_is
     (ap asked_in (sym (step_kex_ecdh_init (g.S.Suite.meaning c.args.suite.now) (role_of c.args.config.now) (config_data c.args.config.now) (state_data c.args.self.now).known (message_data c.args.message.now) c.in-KexEcdhInit.client_share.now is)) ∙ c.requires.calm)) form)) c.receive_init-in-KexEcdhInit.ensures.receives
 

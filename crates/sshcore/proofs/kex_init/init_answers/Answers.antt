@@ -9,8 +9,10 @@ use Rattle.sshcore.specs.EndpointConfig.{config_data, role_of}
 use Rattle.sshcore.specs.Negotiated.{sends_init}
 use Rattle.sshcore.specs.EndpointParts.{ConfigData}
 use Rattle.sshcore.specs.Work.{init_for}
-use Rattle.sshcore.proofs.GivesLemmas.{gives_as, gives_nothing, gives_one, on_both, quiet_init}
-use Rattle.sshcore.proofs.state.State.send_init.Goals as goal
+use Rattle.std.proofs.lemmas.Result.{IfOk-weaker}
+use Rattle.sshcore.proofs.GivesLemmas.{quiet_init}
+use Rattle.sshcore.proofs.MadeLemmas.{made_plain}
+use Rattle.sshcore.proofs.kex_init.init_answers.Goals as goal
 
 unsent_by : (b : Bool) (xs : Units) → not b ≡ false → [] ≡ cond b [] xs
 unsent_by true xs e = refl
@@ -30,18 +32,17 @@ module _ (m : SuiteData) (config : ConfigData) (right : Bool) (kex : List ℕ) (
   sent Server client server e = absurd (true≢false (sym e ∙ server refl))
   sent Client client server e = sent_by (config.offer.first_kex_packet_follows && right) (init_for m config kex ∷ []) (sym (client refl) ∙ e)
 
-pub returns-then-not-opens-clause-gives : goal.returns-then-not-opens-clause-gives
-returns-then-not-opens-clause-gives g c = λ strict next.
-    gives_as _ _ strict next _ _ _ _ _ _ _
-    (unsent (g.S.Suite.meaning c.args.suite.now) (config_data c.args.config.now) c.args.negotiated.now.right c.args.negotiated.now.algorithms.kex
-    c.opens.result (role_of c.args.config.now) c.opens.ensures.client c.if-not-opens.true)
-    (gives_nothing _ _ strict next _ _ _ _ _ c.requires.open refl refl)
+pub returns-then-not-opens : goal.returns-then-not-opens
+returns-then-not-opens g c = c.none.ensures
+    ∙ unsent (g.S.Suite.meaning c.args.suite.now) (config_data c.args.config.now) c.args.negotiated.now.right c.args.negotiated.now.algorithms.kex
+    c.opens.result (role_of c.args.config.now) c.opens.ensures.client c.if-not-opens.true
 
-pub returns-clause-gives : goal.returns-clause-gives
-returns-clause-gives g c = on_both c.send.result c.send.ensures.spells c.send.ensures.counts (λ s k strict next.
-    gives_as _ _ strict next _ _ _ _ (init_for (g.S.Suite.meaning c.args.suite.now) (config_data c.args.config.now) c.kex.result.now ∷ []) _ _
-    (ap (λ (kex : List ℕ). init_for (g.S.Suite.meaning c.args.suite.now) (config_data c.args.config.now) kex ∷ []) c.kex.ensures.kex
+pub one-requires : goal.one-requires
+one-requires g c = made_plain _ _ c.in_ok-init.ensures (quiet_init (g.S.Suite.meaning c.args.suite.now) (config_data c.args.config.now) c.kex.result.now)
+
+pub returns : goal.returns
+returns g c = IfOk-weaker c.one.result _ _ (λ answers alone.
+    alone ∙ (ap (λ (p : List ℕ). p ∷ []) c.in_ok-init.ensures.same
+    ∙ (ap (λ (kex : List ℕ). init_for (g.S.Suite.meaning c.args.suite.now) (config_data c.args.config.now) kex ∷ []) c.kex.ensures.kex
     ∙ sent (g.S.Suite.meaning c.args.suite.now) (config_data c.args.config.now) c.args.negotiated.now.right c.args.negotiated.now.algorithms.kex
-    c.opens.result (role_of c.args.config.now) c.opens.ensures.client c.opens.ensures.server c.if-not-opens.false)
-    (gives_one _ _ strict next _ _ _ _ _ _ _ _ (quiet_init (g.S.Suite.meaning c.args.suite.now) (config_data c.args.config.now) c.kex.result.now)
-    c.in_ok-init.ensures c.deref.ensures.value c.requires.open s k))
+    c.opens.result (role_of c.args.config.now) c.opens.ensures.client c.opens.ensures.server c.if-not-opens.false))) c.one.ensures
