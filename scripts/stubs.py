@@ -7,6 +7,7 @@ the methods of traits and of their impls, except those that TRAITS names."""
 import glob
 import os
 import re
+from typing import NamedTuple
 
 # A function's head, where `rt fmt` lays it out: what stands before it, whether it is constant, its name.
 HEAD = re.compile(r"(\s*)(?:pub(?:\([^)]*\))? )?(const )?fn (\w+)")
@@ -17,6 +18,17 @@ TYPE = re.compile(r"(?m)^(?:pub(?:\([^)]*\))? )?(?:struct|enum|union) (\w+)")
 TRAITS = ("Suite", "Decisions", "Inventory")
 # What is written of a function's proof.
 WRITTEN = ("Answers", "Invariants", "Proof")
+
+
+class Function(NamedTuple):
+    """A function that can be a stub: its path in its crate, the lines of its file, counted from 0, on which its head stands and
+    its body opens and closes, and whether it is a method of a trait."""
+
+    path: str
+    head: int
+    opens: int
+    closes: int
+    is_of_trait: bool
 
 
 def read(path):
@@ -89,11 +101,12 @@ def types_in(folder):
 
 
 def functions_in(lines, module, types):
-    """The functions of a file that can be stubs: the path of each in its crate, and the lines on which it opens and closes."""
-    owner, at = "", 0
+    """The functions of a file that can be stubs."""
+    owner, is_of_trait, at = "", False, 0
     while at < len(lines):
         if IMPL.match(lines[at]) or TRAIT.match(lines[at]):
             owner = owner_of(lines[at], module, types)
+            is_of_trait = " for " in without_parameters(lines[at])
         elif lines[at] == "}":
             owner = ""
         head = HEAD.match(lines[at])
@@ -102,7 +115,8 @@ def functions_in(lines, module, types):
             homes = types.get(owner) or [module]
             home = module if module in homes else homes[0]
             if body[1] > body[0] + 1 and not is_bound(lines, at):
-                yield "::".join(x for x in (*home, owner, head[3]) if x), *body
+                path = "::".join(x for x in (*home, owner, head[3]) if x)
+                yield Function(path, at, *body, bool(owner) and is_of_trait)
             at = body[1]
             if lines[at] == "}":
                 owner = ""
@@ -112,11 +126,11 @@ def functions_in(lines, module, types):
 def stub_file(path, module, types, kept):
     """Empties the functions of a file, but those that are kept; gives the paths of all, and of each whether it is kept."""
     lines, found = read(path).split("\n"), {}
-    for name, first, last in [*functions_in(lines, module, types)]:
-        found[name] = any(f"::{name}".endswith(f"::{x}") for x in kept)
-        if not found[name]:
-            indent = lines[last].removesuffix("}")
-            lines[first + 1 : last] = [f"{indent}    loop {{}}"] + [""] * (last - first - 2)
+    for it in [*functions_in(lines, module, types)]:
+        found[it.path] = any(f"::{it.path}".endswith(f"::{x}") for x in kept)
+        if not found[it.path]:
+            indent = lines[it.closes].removesuffix("}")
+            lines[it.opens + 1 : it.closes] = [f"{indent}    loop {{}}"] + [""] * (it.closes - it.opens - 2)
     write(path, "\n".join(lines))
     return found
 
