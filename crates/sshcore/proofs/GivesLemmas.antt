@@ -1,4 +1,4 @@
--- What is sent for the answers of a reply: none, one, and some after others.
+-- What is sent for the answers of a reply: some after others.
 
 use Rattle.std.proofs.Common.{◌≡◌, ℕ, ◌==◌, Bool, false, List, [], ◌∷◌, ◌++◌, refl, sym, ap, subst, ◌∙◌, append_assoc}
 use Rattle.sshmsg.specs.Numbers.{message_number}

@@ -25,8 +25,8 @@ use sshpacket::{Keys, Suite, write_clear, write_next};
 use sshwire::Memory;
 
 impl State<'_> {
-    /// Sends a reply: its answers, and where keys are switched NEWKEYS with what follows it. It is the only one that makes
-    /// packets of an endpoint's payloads.
+    /// Sends a reply: its answers, and where keys are switched NEWKEYS with what follows it. Packets of an endpoint's
+    /// payloads are made in this file alone.
     pub(crate) fn send_reply<S: Suite>(
         &mut self,
         config: &Config<'_>,
